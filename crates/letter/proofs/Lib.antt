@@ -1,0 +1,5 @@
+pub mod Groups
+pub mod Reading
+pub mod Chained
+pub mod Places
+pub mod Writes

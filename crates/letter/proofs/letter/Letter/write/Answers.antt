@@ -1,0 +1,36 @@
+use mathlib.Core.Path.{_≡_, refl, sym, ap, _∙_}
+use mathlib.Core.List.{_++_}
+use Prim.Native.Nat.{_+_, _-_, _<_}
+use native.Mathlib.Omega.{arith}
+use borrow.Author.Needs.{needs}
+use lib.ListN.{length, take, drop, length-append}
+use Rattle.letter.specs.Letters.{kindNumber}
+use Rattle.letter.specs.Numbers.{leb}
+use Rattle.letter.specs.Bytes.{letterBytes}
+use Rattle.letter.proofs.Writes.{both-sizes, both-pieces, short-answer, short-bytes, short-back, whole-answer, whole-bytes, whole-back}
+use Rattle.letter.proofs.letter.Letter.write.Needs as need
+
+pub returns-then-out-length : need.returns-then-out-length
+returns-then-out-length c =
+    let l = c .args .self in
+    let n = c .write-number-length .result in
+    let size = both-sizes l (c .write-number-behind .result) n (c .from .ensures ∙ c .number .ensures) (c .from-2 .ensures) (c .write-number-behind .ensures .end .0) (c .write-number-length .ensures .end .0) in
+    let h = c .if-out-length .taken in
+    record { answer = short-answer l (c .args .out .now) n size h; bytes = short-bytes l (c .args .out .now) n size h; read-back = short-back l (c .args .out .now) n size h }
+
+pub returns : need.returns
+returns c =
+    let l = c .args .self in
+    let n = c .write-number-length .result in
+    let size = both-sizes l (c .write-number-behind .result) n (c .from .ensures ∙ c .number .ensures) (c .from-2 .ensures) (c .write-number-behind .ensures .end .0) (c .write-number-length .ensures .end .0) in
+    let h = c .if-out-length .left in
+    let all : n - 0 ≡ n = omega arith in
+    let copied : c .copy-from-slice .last .self ≡ letterBytes l =
+        c .copy-from-slice .ensures .after ∙ ap (λ m. take m (c .write-number-length .last .out)) all
+        ∙ both-pieces (leb (c .from .result)) (leb (c .from-2 .result)) _ (c .write-number-behind .last .out) (c .write-number-length .last .out) (c .write-number-behind .result) n
+        (c .write-number-behind .ensures .end .0) (c .write-number-behind .ensures .bytes) (c .write-number-length .ensures .end .0) (c .write-number-length .ensures .bytes)
+        ∙ ap (λ k. leb k ++ leb (c .from-2 .result)) (c .from .ensures ∙ c .number .ensures) ∙ ap (λ i. leb (kindNumber (l .kind)) ++ leb i) (c .from-2 .ensures) in
+    let is : c .copy-from-slice .last .self ++ drop (n - 0) (c .args .out .now) ≡ letterBytes l ++ drop n (c .args .out .now) =
+        ap (λ b. b ++ drop (n - 0) (c .args .out .now)) copied ∙ ap (λ m. letterBytes l ++ drop m (c .args .out .now)) all in
+    let small : l .item < 256 = omega arith in
+    record { answer = whole-answer l (c .args .out .now) n size h; bytes = is ∙ whole-bytes l (c .args .out .now) n size h; read-back = whole-back l (c .args .out .now) n size h small _ is }

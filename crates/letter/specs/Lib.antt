@@ -1,0 +1,4 @@
+pub mod Refusals
+pub mod Letters
+pub mod Numbers
+pub mod Bytes
