@@ -9,7 +9,7 @@ use lib.Dec.{ltb}
 use lib.ListN.{length, length-append}
 use Rattle.std.specs.shelf.Lists.{All}
 use Rattle.std.proofs.shelf.Tests.{cases-lt, lt-ltb, le-ltb}
-use Rattle.letter.specs.Numbers.{groups, leb}
+use Rattle.letter.specs.Numbers.{groups, leb, valueOf, Marked, Whole, Spells, EncodingLaw}
 
 -- enough groups are enough
 groups-enough : (k m n : ℕ) → n ≤ k → n ≤ m → groups k n ≡ groups m n
@@ -31,21 +31,6 @@ pub leb-more : (n : ℕ) → 128 ≤ n → leb n ≡ (128 + n % 128) ∷ leb (n 
 unfolding leb
 leb-more zero h = absurd (omega arith)
 leb-more (suc n) h = rw (le-ltb (suc n) 128 h) (ap (λ r. (128 + suc n % 128) ∷ r) (groups-enough n (suc n / 128) (suc n / 128) (omega arith) (omega arith)))
-
--- the number that groups spell
-abbrev pub valueOf : List ℕ → ℕ
-valueOf [] = 0
-valueOf (g ∷ gs) = g % 128 + 128 * valueOf gs
-
--- a group behind which another stands
-abbrev pub Marked : List ℕ → Type 0
-Marked xs = All (λ g. (128 ≤ g) × (g < 256)) xs
-
--- a whole number: the groups before the last, and the last, which is not 0 behind others
-pub record Whole (front : List ℕ) (last : ℕ) : Type 0 where
-  pub marked : Marked front
-  pub ends : last < 128
-  pub shortest : 0 < length front → 0 < last
 
 value-pos : (front : List ℕ) (last : ℕ) → 0 < last → last < 128 → 0 < valueOf (front ++ last ∷ [])
 value-pos [] last h l = omega arith
@@ -112,6 +97,12 @@ shape-by (suc most) n h =
 
 pub leb-shape : (n : ℕ) → Shape n
 leb-shape n = shape-by n n (omega arith)
+
+pub encoding-law : EncodingLaw
+encoding-law bytes n = (
+  (λ e. let s = leb-shape n in record { front = s .front; last = s .last; bytes-are = e ∙ s .spelled; whole = s .whole; value = ap valueOf (e ∙ s .spelled) ∙ s .value }),
+  (λ s. s .bytes-are ∙ sym (leb-of (s .front) (s .last) (s .whole)) ∙ ap leb (ap valueOf (sym (s .bytes-are)) ∙ s .value)),
+)
 
 -- three groups spell what is below 2 ^ 21, and more spell more
 pub few-below : (front : List ℕ) (last : ℕ) → last < 128 → length front ≤ 2 → valueOf (front ++ last ∷ []) < 2 ^ 21

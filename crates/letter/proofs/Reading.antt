@@ -11,8 +11,8 @@ use Rattle.std.proofs.shelf.Tests.{cases-lt}
 use Rattle.std.specs.declared.result.Result.{Result}
 use Rattle.std.specs.declared.result.Result.the-variants.{Ok, Err}
 use Rattle.letter.specs.declared.refusal.Refusal.the-variants.{CutShort, Malformed}
-use Rattle.letter.specs.Numbers.{leb, Number, Cut, NumberAnswer, NumberRead}
-use Rattle.letter.proofs.Groups.{valueOf, Marked, Whole, Shape, leb-of, leb-shape, few-below, many-above, same-end, longer-front}
+use Rattle.letter.specs.Numbers.{leb, valueOf, Marked, Whole, Number, Cut, NumberAnswer, NumberRead}
+use Rattle.letter.proofs.Groups.{Shape, leb-of, leb-shape, few-below, many-above, same-end, longer-front}
 
 -- what the bytes of a number and what follows them agree with
 follows : (n : ℕ) (rest : List ℕ) → leb n ++ rest ≡ leb-shape n .front ++ leb-shape n .last ∷ rest

@@ -2,3 +2,5 @@ pub mod Refusals
 pub mod Letters
 pub mod Numbers
 pub mod Bytes
+pub mod Names
+pub mod Worked

@@ -1,11 +1,17 @@
 //! The letters of a negotiation, and their bytes on the wire.
 mod bytes;
+mod display;
 mod letter;
 mod number;
 mod refusal;
+mod theorems;
 
 pub use bytes::write_numbers;
+pub use display::KindDisplay;
+pub use display::LetterDisplay;
 pub use letter::Kind;
 pub use letter::Letter;
 pub use number::read_number;
 pub use refusal::Refusal;
+pub use theorems::encoding_stands;
+pub use theorems::worked_values_stand;
