@@ -6,12 +6,21 @@ mod number;
 mod refusal;
 mod theorems;
 
+#[cfg(test)]
+mod tests;
+
 pub use bytes::write_numbers;
 pub use display::KindDisplay;
 pub use display::LetterDisplay;
 pub use letter::Kind;
+pub use letter::KindDebug;
+pub use letter::KindPartialEq;
 pub use letter::Letter;
+pub use letter::LetterDebug;
+pub use letter::LetterPartialEq;
 pub use number::read_number;
 pub use refusal::Refusal;
+pub use refusal::RefusalDebug;
+pub use refusal::RefusalPartialEq;
 pub use theorems::encoding_stands;
 pub use theorems::worked_values_stand;
