@@ -20,7 +20,7 @@ leb-short n small =
     let w = s .whole in
     let v = s .value in
     rw (s .spelled) (simp length-append
-      (⊎-elim (λ l. omega arith) (λ l. absurd (let m = many-above (s .front) (s .last) (w .shortest (omega arith)) (w .ends) l in omega arith)) (cases-lt (length (s .front)) 3)))
+    (⊎-elim (λ l. omega arith) (λ l. absurd (let m = many-above (s .front) (s .last) (w .shortest (omega arith)) (w .ends) l in omega arith)) (cases-lt (length (s .front)) 3)))
 
 -- the buffer `out` holds the groups up to `place`, and `left` is still to be written
 pub record Writing (entry : List ℕ) (at number : ℕ) (out : List ℕ) (place left : ℕ) : Type 0 where
@@ -44,7 +44,7 @@ module _ (entry : List ℕ) (at number : ℕ) (out : List ℕ) (place left : ℕ
       let e = leb-more left more in
       record {
         done =
-          ap (λ t. t ++ leb (left / 128)) (take-more-set out place x inside) ∙ append-assoc (take place out) (x ∷ []) (leb (left / 128))
+            ap (λ t. t ++ leb (left / 128)) (take-more-set out place x inside) ∙ append-assoc (take place out) (x ∷ []) (leb (left / 128))
             ∙ ap (λ y. take place out ++ y ∷ leb (left / 128)) is ∙ ap (λ b. take place out ++ b) (sym e) ∙ w .done;
         rest = drop-set-lt (place + 1) out place x (omega arith) ∙ after;
         long = length-set out place x ∙ w .long;
@@ -57,10 +57,10 @@ module _ (entry : List ℕ) (at number : ℕ) (out : List ℕ) (place left : ℕ
       let p : suc place ≡ place + 1 = omega arith in
       let q : place + 1 ≡ at + length (leb number) = let b = w .behind in omega (arith, ap length e) in
       set-split out place left inside
-        ∙ ap (λ n. take place out ++ left ∷ drop n out) p
-        ∙ ap (λ r. take place out ++ left ∷ r) after
-        ∙ sym (append-assoc (take place out) (left ∷ []) (drop (place + 1) entry))
-        ∙ ap (λ b. (take place out ++ b) ++ drop (place + 1) entry) (sym e)
-        ∙ ap (λ b. b ++ drop (place + 1) entry) (w .done)
-        ∙ append-assoc (take at entry) (leb number) (drop (place + 1) entry)
-        ∙ ap (λ n. take at entry ++ (leb number ++ drop n entry)) q
+      ∙ ap (λ n. take place out ++ left ∷ drop n out) p
+      ∙ ap (λ r. take place out ++ left ∷ r) after
+      ∙ sym (append-assoc (take place out) (left ∷ []) (drop (place + 1) entry))
+      ∙ ap (λ b. (take place out ++ b) ++ drop (place + 1) entry) (sym e)
+      ∙ ap (λ b. b ++ drop (place + 1) entry) (w .done)
+      ∙ append-assoc (take at entry) (leb number) (drop (place + 1) entry)
+      ∙ ap (λ n. take at entry ++ (leb number ++ drop n entry)) q

@@ -103,21 +103,21 @@ reads-neither bytes never =
 pub reads-padded : (front rest : List ℕ) → Marked front → 0 < length front → NumberRead (front ++ 0 ∷ rest) (Err Malformed)
 reads-padded front rest marked some =
     reads-neither (front ++ 0 ∷ rest) λ n r more small e.
-      let s = leb-shape n in
-      let w = s .whole in
-      let q = same-end (s .front) front (s .last) 0 r (rest ++ more) (w .marked) marked (w .ends) (omega arith) (sym (follows n r) ∙ e ∙ append-assoc front (0 ∷ rest) more) in
-      let l = w .shortest in
-      omega (arith, ap length (q .0), q .1)
+    let s = leb-shape n in
+    let w = s .whole in
+    let q = same-end (s .front) front (s .last) 0 r (rest ++ more) (w .marked) marked (w .ends) (omega arith) (sym (follows n r) ∙ e ∙ append-assoc front (0 ∷ rest) more) in
+    let l = w .shortest in
+    omega (arith, ap length (q .0), q .1)
 
 pub reads-long : (front rest : List ℕ) → Marked front → length front ≡ 3 → NumberRead (front ++ rest) (Err Malformed)
 reads-long front rest marked three =
     reads-neither (front ++ rest) λ n r more small e.
-      let s = leb-shape n in
-      let w = s .whole in
-      let l = longer-front front (s .front) (s .last) r (rest ++ more) marked (w .ends) (sym (append-assoc front rest more) ∙ sym e ∙ follows n r) in
-      let m = many-above (s .front) (s .last) (w .shortest (omega arith)) (w .ends) (omega arith) in
-      let v = s .value in
-      omega arith
+    let s = leb-shape n in
+    let w = s .whole in
+    let l = longer-front front (s .front) (s .last) r (rest ++ more) marked (w .ends) (sym (append-assoc front rest more) ∙ sym e ∙ follows n r) in
+    let m = many-above (s .front) (s .last) (w .shortest (omega arith)) (w .ends) (omega arith) in
+    let v = s .value in
+    omega arith
 
 -- the value with one group more, as it is added up
 value-more : (xs : List ℕ) (g p x : ℕ) → length xs ≡ p → p ≤ 2 → x ≡ g % 128 → valueOf xs + x * 2 ^ (7 * p) % 2 ^ 32 ≡ valueOf (xs ++ g ∷ [])
@@ -161,7 +161,7 @@ module _ (bytes : List ℕ) (p v : ℕ) (at : Reading bytes p v) where
     pub at-padding : 0 < p → g ≡ 0 → NumberRead bytes (Err Malformed)
     at-padding some z =
         subst (λ b. NumberRead b (Err Malformed)) (ap (λ x. take p bytes ++ x ∷ drop (p + 1) bytes) (sym z) ∙ here)
-          (reads-padded (take p bytes) (drop (p + 1) bytes) (at .marked) (omega (arith, far)))
+        (reads-padded (take p bytes) (drop (p + 1) bytes) (at .marked) (omega (arith, far)))
 
     module _ (few : p < 3) (x : ℕ) (low : x ≡ g % 128) where
       sum : v + x * 2 ^ (7 * p) % 2 ^ 32 ≡ valueOf (take p bytes ++ g ∷ [])
@@ -173,8 +173,8 @@ module _ (bytes : List ℕ) (p v : ℕ) (at : Reading bytes p v) where
       pub at-last : g < 128 → (0 < p → 0 < g) → NumberRead bytes (Ok (v + x * 2 ^ (7 * p) % 2 ^ 32, take (length bytes - (p + 1)) (drop (p + 1) bytes)))
       at-last small shortest =
           rw (sum, take-rest bytes (p + 1))
-            (subst (λ b. NumberRead b (Ok (valueOf (take p bytes ++ g ∷ []), drop (p + 1) bytes))) here
-              (reads-whole (take p bytes) g (drop (p + 1) bytes) (record { marked = at .marked; ends = small; shortest = λ k. shortest (omega (arith, far)) }) (omega (arith, far))))
+          (subst (λ b. NumberRead b (Ok (valueOf (take p bytes ++ g ∷ []), drop (p + 1) bytes))) here
+          (reads-whole (take p bytes) g (drop (p + 1) bytes) (record { marked = at .marked; ends = small; shortest = λ k. shortest (omega (arith, far)) }) (omega (arith, far))))
 
       pub at-mark : 128 ≤ g → g < 256 → Reading bytes (p + 1) (v + x * 2 ^ (7 * p) % 2 ^ 32)
       at-mark large byte =

@@ -49,9 +49,20 @@ marked g h k = ((h, k), tt)
 pub worked : Worked
 worked = (
   (bytes-127, read-from (request 127) (0x01 ∷ 0x7F ∷ []) bytes-127 (omega arith)),
-  ((bytes-200, read-from (request 200) (0x01 ∷ 0xC8 ∷ 0x01 ∷ []) bytes-200 (omega arith)),
-  ((CutShort, no-first (0x80 ∷ 0x80 ∷ []) CutShort (reads-cut (0x80 ∷ 0x80 ∷ []) ((omega arith, omega arith), ((omega arith, omega arith), tt)) (omega arith)), refl),
-  ((Malformed, no-first (0x81 ∷ 0x00 ∷ []) Malformed (reads-padded (0x81 ∷ []) [] (marked 0x81 (omega arith) (omega arith)) (omega arith)), refl),
-  ((NoSuchKind, strange-kind (0x05 ∷ 0x00 ∷ []) (0x00 ∷ []) 5 (number-from 5 (0x05 ∷ []) (0x00 ∷ []) bytes-5 (omega arith)) refl, refl),
-  ((ItemTooLarge, large-item (0x01 ∷ 0x80 ∷ 0x02 ∷ []) (0x80 ∷ 0x02 ∷ []) 1 (number-from 1 (0x01 ∷ []) (0x80 ∷ 0x02 ∷ []) bytes-1 (omega arith)) Request refl 256 [] (number-from 256 (0x80 ∷ 0x02 ∷ []) [] bytes-256 (omega arith)) (omega arith), refl),
-  tt))))))
+  (
+    (bytes-200, read-from (request 200) (0x01 ∷ 0xC8 ∷ 0x01 ∷ []) bytes-200 (omega arith)),
+    (
+      (CutShort, no-first (0x80 ∷ 0x80 ∷ []) CutShort (reads-cut (0x80 ∷ 0x80 ∷ []) ((omega arith, omega arith), ((omega arith, omega arith), tt)) (omega arith)), refl),
+      (
+        (Malformed, no-first (0x81 ∷ 0x00 ∷ []) Malformed (reads-padded (0x81 ∷ []) [] (marked 0x81 (omega arith) (omega arith)) (omega arith)), refl),
+        (
+          (NoSuchKind, strange-kind (0x05 ∷ 0x00 ∷ []) (0x00 ∷ []) 5 (number-from 5 (0x05 ∷ []) (0x00 ∷ []) bytes-5 (omega arith)) refl, refl),
+          (
+            (ItemTooLarge, large-item (0x01 ∷ 0x80 ∷ 0x02 ∷ []) (0x80 ∷ 0x02 ∷ []) 1 (number-from 1 (0x01 ∷ []) (0x80 ∷ 0x02 ∷ []) bytes-1 (omega arith)) Request refl 256 [] (number-from 256 (0x80 ∷ 0x02 ∷ []) [] bytes-256 (omega arith)) (omega arith), refl),
+            tt,
+          ),
+        ),
+      ),
+    ),
+  ),
+)

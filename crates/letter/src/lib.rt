@@ -4,10 +4,9 @@ mod display;
 mod letter;
 mod number;
 mod refusal;
-mod theorems;
-
 #[cfg(test)]
 mod tests;
+mod theorems;
 
 pub use bytes::write_numbers;
 pub use display::KindDisplay;

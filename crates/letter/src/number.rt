@@ -9,6 +9,9 @@ use crate::refusal::Refusal;
 /// The most groups of seven bits that a number may have.
 pub(crate) const MOST_GROUPS: usize = 3;
 
+/// The top bit of a group: another group follows.
+const MARK: u8 = 0x80;
+
 /// The number at the front of the bytes, and the bytes behind it.
 pub fn read_number(bytes: &[u8]) -> Result<(u32, &[u8]), Refusal>
     ensures { λ r. ⌜ NumberRead (now (bytes .entry)) (told now r) ⌝ }
@@ -19,7 +22,7 @@ pub fn read_number(bytes: &[u8]) -> Result<(u32, &[u8]), Refusal>
             return Err(Refusal::CutShort);
         };
         value += u32::from(group & 0x7F) << (7 * place);
-        if group < 0x80 {
+        if group < MARK {
             if place > 0 && group == 0 {
                 return Err(Refusal::Malformed);
             }

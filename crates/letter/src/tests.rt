@@ -71,11 +71,56 @@ fn numbers_and_their_refusals() -> Result<(), Fail> {
 
 #[test]
 fn letters_read() -> Result<(), Fail> {
-    check_eq(letter_of(&[0x01, 0x7F]), Ok((Letter { kind: Kind::Request, item: 127 }, 0)))?;
-    check_eq(letter_of(&[0x01, 0xC8, 0x01]), Ok((Letter { kind: Kind::Request, item: 200 }, 0)))?;
-    check_eq(letter_of(&[0x02, 0x03, 0x80]), Ok((Letter { kind: Kind::Disclosure, item: 3 }, 1)))?;
-    check_eq(letter_of(&[0x03, 0x00]), Ok((Letter { kind: Kind::RequestAck, item: 0 }, 0)))?;
-    check_eq(letter_of(&[0x04, 0xFF, 0x01]), Ok((Letter { kind: Kind::DisclosureAck, item: 255 }, 0)))
+    check_eq(
+        letter_of(&[0x01, 0x7F]),
+        Ok((
+            Letter {
+                kind: Kind::Request,
+                item: 127,
+            },
+            0,
+        )),
+    )?;
+    check_eq(
+        letter_of(&[0x01, 0xC8, 0x01]),
+        Ok((
+            Letter {
+                kind: Kind::Request,
+                item: 200,
+            },
+            0,
+        )),
+    )?;
+    check_eq(
+        letter_of(&[0x02, 0x03, 0x80]),
+        Ok((
+            Letter {
+                kind: Kind::Disclosure,
+                item: 3,
+            },
+            1,
+        )),
+    )?;
+    check_eq(
+        letter_of(&[0x03, 0x00]),
+        Ok((
+            Letter {
+                kind: Kind::RequestAck,
+                item: 0,
+            },
+            0,
+        )),
+    )?;
+    check_eq(
+        letter_of(&[0x04, 0xFF, 0x01]),
+        Ok((
+            Letter {
+                kind: Kind::DisclosureAck,
+                item: 255,
+            },
+            0,
+        )),
+    )
 }
 
 #[test]
@@ -95,7 +140,10 @@ fn letters_turned_down() -> Result<(), Fail> {
 
 #[test]
 fn letters_written() -> Result<(), Fail> {
-    let letter = Letter { kind: Kind::Request, item: 200 };
+    let letter = Letter {
+        kind: Kind::Request,
+        item: 200,
+    };
     let mut none: [u8; 0] = [];
     check_eq(letter.write(&mut none), Err(Refusal::BufferTooShort))?;
     let mut one = [0xEE];
@@ -118,7 +166,10 @@ fn numbers_from_outside() -> Result<(), Fail> {
     check_eq(write_numbers(0, 300, &mut out), Err(Refusal::NoSuchKind))?;
     check_eq(write_numbers(5, 300, &mut out), Err(Refusal::NoSuchKind))?;
     check_eq(write_numbers(4, 256, &mut out), Err(Refusal::ItemTooLarge))?;
-    check_eq(write_numbers(4, 200, &mut out), Err(Refusal::BufferTooShort))?;
+    check_eq(
+        write_numbers(4, 200, &mut out),
+        Err(Refusal::BufferTooShort),
+    )?;
     check_eq(out, [0xEE, 0xEE])?;
     check_eq(write_numbers(4, 3, &mut out), Ok(2))?;
     check_eq(out, [0x04, 0x03])?;

@@ -55,7 +55,7 @@ module _ (capture rest text : List ℕ) (count : ℕ) (s : SoFar capture rest te
       record {
         letters = s .letters ++ l ∷ [];
         captured =
-          s .captured ∙ ap (λ r. joined letterBytes (s .letters) ++ r) (q .spelled) ∙ sym (append-assoc (joined letterBytes (s .letters)) (letterBytes l) behind)
+            s .captured ∙ ap (λ r. joined letterBytes (s .letters) ++ r) (q .spelled) ∙ sym (append-assoc (joined letterBytes (s .letters)) (letterBytes l) behind)
             ∙ ap (λ b. b ++ behind) (joined-more letterBytes [] (s .letters) l);
         printed = f ∙ ap (λ t. t ++ line) (s .printed) ∙ ap (λ b. joined letterLine (s .letters) ++ b) e ∙ joined-more letterLine [] (s .letters) l;
         counted = let c = s .counted in omega (arith, length-append (s .letters) (l ∷ []));
@@ -81,6 +81,6 @@ module _ (capture rest text : List ℕ) (count : ℕ) (s : SoFar capture rest te
         captured = s .captured;
         stops = inr (e, some, why, is ∙ ap (refusalLine e) offset);
         printed =
-          t″ ∙ ap (λ t. t ++ line) (t′ ∙ ap (λ t. t ++ stop) (s .printed)) ∙ append-assoc (joined letterLine (s .letters)) stop line
+            t″ ∙ ap (λ t. t ++ line) (t′ ∙ ap (λ t. t ++ stop) (s .printed)) ∙ append-assoc (joined letterLine (s .letters)) stop line
             ∙ ap (λ b. joined letterLine (s .letters) ++ (stop ++ b)) (last ∙ ap countLine (s .counted));
       }

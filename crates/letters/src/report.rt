@@ -54,9 +54,21 @@ mod tests {
 
     #[test]
     fn letters_and_then_none(rt: LibcRuntime) -> Result<(), Fail> {
-        said(&rt, &[1, 127, 2, 3, 4], "request 127\ndisclosure 3\nrefusal 41 at 4\n2 letters\n")?;
-        said(&rt, &[1, 200, 1, 5, 0, 1, 1], "request 200\nrefusal 43 at 3\n1 letters\n")?;
+        said(
+            &rt,
+            &[1, 127, 2, 3, 4],
+            "request 127\ndisclosure 3\nrefusal 41 at 4\n2 letters\n",
+        )?;
+        said(
+            &rt,
+            &[1, 200, 1, 5, 0, 1, 1],
+            "request 200\nrefusal 43 at 3\n1 letters\n",
+        )?;
         said(&rt, &[3, 128, 2], "refusal 44 at 0\n0 letters\n")?;
-        said(&rt, &[4, 255, 1, 3, 128, 0], "disclosure-ack 255\nrefusal 42 at 3\n1 letters\n")
+        said(
+            &rt,
+            &[4, 255, 1, 3, 128, 0],
+            "disclosure-ack 255\nrefusal 42 at 3\n1 letters\n",
+        )
     }
 }

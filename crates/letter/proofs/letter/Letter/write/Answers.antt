@@ -26,11 +26,11 @@ returns c =
     let h = c .if-out-length .left in
     let all : n - 0 ≡ n = omega arith in
     let copied : c .copy-from-slice .last .self ≡ letterBytes l =
-        c .copy-from-slice .ensures .after ∙ ap (λ m. take m (c .write-number-length .last .out)) all
-        ∙ both-pieces (leb (c .from .result)) (leb (c .from-2 .result)) _ (c .write-number-behind .last .out) (c .write-number-length .last .out) (c .write-number-behind .result) n
-        (c .write-number-behind .ensures .end .0) (c .write-number-behind .ensures .bytes) (c .write-number-length .ensures .end .0) (c .write-number-length .ensures .bytes)
-        ∙ ap (λ k. leb k ++ leb (c .from-2 .result)) (c .from .ensures ∙ c .number .ensures) ∙ ap (λ i. leb (kindNumber (l .kind)) ++ leb i) (c .from-2 .ensures) in
+    c .copy-from-slice .ensures .after ∙ ap (λ m. take m (c .write-number-length .last .out)) all
+    ∙ both-pieces (leb (c .from .result)) (leb (c .from-2 .result)) _ (c .write-number-behind .last .out) (c .write-number-length .last .out) (c .write-number-behind .result) n
+    (c .write-number-behind .ensures .end .0) (c .write-number-behind .ensures .bytes) (c .write-number-length .ensures .end .0) (c .write-number-length .ensures .bytes)
+    ∙ ap (λ k. leb k ++ leb (c .from-2 .result)) (c .from .ensures ∙ c .number .ensures) ∙ ap (λ i. leb (kindNumber (l .kind)) ++ leb i) (c .from-2 .ensures) in
     let is : c .copy-from-slice .last .self ++ drop (n - 0) (c .args .out .now) ≡ letterBytes l ++ drop n (c .args .out .now) =
-        ap (λ b. b ++ drop (n - 0) (c .args .out .now)) copied ∙ ap (λ m. letterBytes l ++ drop m (c .args .out .now)) all in
+    ap (λ b. b ++ drop (n - 0) (c .args .out .now)) copied ∙ ap (λ m. letterBytes l ++ drop m (c .args .out .now)) all in
     let small : l .item < 256 = omega arith in
     record { answer = whole-answer l (c .args .out .now) n size h; bytes = is ∙ whole-bytes l (c .args .out .now) n size h; read-back = whole-back l (c .args .out .now) n size h small _ is }
