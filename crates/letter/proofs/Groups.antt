@@ -9,7 +9,7 @@ use lib.Dec.{ltb}
 use lib.ListN.{length, length-append}
 use Rattle.std.specs.shelf.Lists.{All}
 use Rattle.std.proofs.shelf.Tests.{cases-lt, lt-ltb, le-ltb}
-use Rattle.letter.specs.Numbers.{groups, leb, valueOf, Marked, Whole, Spells, EncodingLaw}
+use Rattle.letter.specs.Numbers.{groups, leb, valueOf, TopBitSet, Whole, Encodes, EncodingLaw}
 
 -- enough groups are enough
 groups-enough : (k m n : ℕ) → n ≤ k → n ≤ m → groups k n ≡ groups m n
@@ -37,7 +37,7 @@ value-pos [] last h l = omega arith
 value-pos (g ∷ gs) last h l = let ih = value-pos gs last h l in omega arith
 
 tail-whole : (g : ℕ) (gs : List ℕ) (last : ℕ) → Whole (g ∷ gs) last → Whole gs last
-tail-whole g gs last w = record { marked = w .marked .1; ends = w .ends; shortest = λ h. w .shortest (omega arith) }
+tail-whole g gs last w = record { continued = w .continued .1; ends = w .ends; shortest = λ h. w .shortest (omega arith) }
 
 -- a whole number is the bytes of its value
 pub leb-of : (front : List ℕ) (last : ℕ) → Whole front last → leb (valueOf (front ++ last ∷ [])) ≡ front ++ last ∷ []
@@ -49,7 +49,7 @@ leb-of (g ∷ gs) last w =
     let l = w .ends in
     let p = value-pos gs last (w .shortest (omega arith)) l in
     let v = valueOf (gs ++ last ∷ []) in
-    let m = w .marked .0 in
+    let m = w .continued .0 in
     let n : ℕ = g % 128 + 128 * v in
     let big : 128 ≤ n = omega arith in
     let a : 128 + n % 128 ≡ g = omega arith in
@@ -70,7 +70,7 @@ one-group n l =
       front = [];
       last = n;
       spelled = leb-last n l;
-      whole = record { marked = tt; ends = l; shortest = λ h. absurd (omega arith) };
+      whole = record { continued = tt; ends = l; shortest = λ h. absurd (omega arith) };
       value = omega arith;
     }
 
@@ -82,7 +82,7 @@ more-groups n l s =
       front = (128 + n % 128) ∷ s .front;
       last = s .last;
       spelled = leb-more n l ∙ ap (λ r. (128 + n % 128) ∷ r) (s .spelled);
-      whole = record { marked = (omega arith, w .marked); ends = w .ends; shortest = λ h. positive (s .front) (s .last) w (omega arith) };
+      whole = record { continued = (omega arith, w .continued); ends = w .ends; shortest = λ h. positive (s .front) (s .last) w (omega arith) };
       value = omega arith;
     }
   where
@@ -118,7 +118,7 @@ many-above (a ∷ b ∷ []) last p h k = absurd (omega arith)
 many-above (a ∷ b ∷ c ∷ cs) last p h k = let v = value-pos cs last p h in omega arith
 
 -- the first group without a mark is where a number ends
-pub same-end : (a b : List ℕ) (x y : ℕ) (r s : List ℕ) → Marked a → Marked b → x < 128 → y < 128 → a ++ x ∷ r ≡ b ++ y ∷ s → (a ≡ b) × (x ≡ y) × (r ≡ s)
+pub same-end : (a b : List ℕ) (x y : ℕ) (r s : List ℕ) → TopBitSet a → TopBitSet b → x < 128 → y < 128 → a ++ x ∷ r ≡ b ++ y ∷ s → (a ≡ b) × (x ≡ y) × (r ≡ s)
 same-end [] [] x y r s ma mb hx hy e = (refl, (cc), (cc))
 same-end [] (b ∷ bs) x y r s ma mb hx hy e = let k : x ≡ b = cc in absurd (let m = mb .0 in omega arith)
 same-end (a ∷ as′) [] x y r s ma mb hx hy e = let k : a ≡ y = cc in absurd (let m = ma .0 in omega arith)
@@ -129,8 +129,8 @@ same-end (a ∷ as′) (b ∷ bs) x y r s ma mb hx hy e =
     let p = ih .0 in
     ((cc), ih .1, ih .2)
 
--- marked groups all stand before that end
-pub longer-front : (a b : List ℕ) (x : ℕ) (r s : List ℕ) → Marked a → x < 128 → a ++ s ≡ b ++ x ∷ r → length a ≤ length b
+-- groups with their top bit set all stand before that end
+pub longer-front : (a b : List ℕ) (x : ℕ) (r s : List ℕ) → TopBitSet a → x < 128 → a ++ s ≡ b ++ x ∷ r → length a ≤ length b
 longer-front [] b x r s ma hx e = omega arith
 longer-front (a ∷ as′) [] x r s ma hx e = let k : a ≡ x = cc in absurd (let m = ma .0 in omega arith)
 longer-front (a ∷ as′) (b ∷ bs) x r s ma hx e =

@@ -11,7 +11,7 @@ use Rattle.std.proofs.shelf.Tests.{cases-lt}
 use Rattle.std.specs.declared.result.Result.{Result}
 use Rattle.std.specs.declared.result.Result.the-variants.{Ok, Err}
 use Rattle.letter.specs.declared.refusal.Refusal.the-variants.{CutShort, Malformed}
-use Rattle.letter.specs.Numbers.{leb, valueOf, Marked, Whole, Number, Cut, NumberAnswer, NumberRead}
+use Rattle.letter.specs.Numbers.{leb, valueOf, TopBitSet, Whole, NumberThen, Cut, NumberAnswer, NumberRead}
 use Rattle.letter.proofs.Groups.{Shape, leb-of, leb-shape, few-below, many-above, same-end, longer-front}
 
 -- what the bytes of a number and what follows them agree with
@@ -27,17 +27,17 @@ module _ (front : List ℕ) (last : ℕ) (rest : List ℕ) (whole : Whole front 
   same n r more e =
       let s = leb-shape n in
       let w = s .whole in
-      let q = same-end (s .front) front (s .last) last r (rest ++ more) (w .marked) (whole .marked) (w .ends) (whole .ends) (sym (follows n r) ∙ e ∙ append-assoc front (last ∷ rest) more) in
+      let q = same-end (s .front) front (s .last) last r (rest ++ more) (w .continued) (whole .continued) (w .ends) (whole .ends) (sym (follows n r) ∙ e ∙ append-assoc front (last ∷ rest) more) in
       let a = q .0 in
       let b = q .1 in
       let v = s .value in
       ((cc), q .2)
 
-  number : Number (front ++ last ∷ rest) (valueOf (front ++ last ∷ [])) rest
+  number : NumberThen (front ++ last ∷ rest) (valueOf (front ++ last ∷ [])) rest
   number =
       record {
         small = few-below front last (whole .ends) few;
-        spelled = sym (append-assoc front (last ∷ []) rest) ∙ ap (λ b. b ++ rest) (sym (leb-of front last whole));
+        bytes-are = sym (append-assoc front (last ∷ []) rest) ∙ ap (λ b. b ++ rest) (sym (leb-of front last whole));
       }
 
   pub reads-whole : NumberRead (front ++ last ∷ rest) (Ok (valueOf (front ++ last ∷ []), rest))
@@ -45,13 +45,13 @@ module _ (front : List ℕ) (last : ℕ) (rest : List ℕ) (whole : Whole front 
       record {
         read = λ n r. (
           (λ e. let p = ok-parts (valueOf (front ++ last ∷ [])) n rest r e in rw (← (p .0), ← (p .1)) number),
-          (λ q. let p = same n r [] (sym (q .spelled) ∙ sym (append-nil (front ++ last ∷ rest))) in let a = p .0 in let b = p .1 ∙ append-nil rest in cc),
+          (λ q. let p = same n r [] (sym (q .bytes-are) ∙ sym (append-nil (front ++ last ∷ rest))) in let a = p .0 in let b = p .1 ∙ append-nil rest in cc),
         );
         cut = (
-          (λ e. absurd (let z : _≡_ {A = ℕ} 0 1 = cc in omega arith)),
-          (λ c. absurd (let p = same (c .number) [] (c .missing) (append-nil (leb (c .number)) ∙ sym (c .spelled)) in let k = c .some in omega (arith, ap length (p .1), length-append rest (c .missing)))),
+          (λ e. absurd e),
+          (λ c. absurd (let p = same (c .number) [] (c .missing) (append-nil (leb (c .number)) ∙ sym (c .bytes-are)) in let k = c .nonempty in omega (arith, ap length (p .1), length-append rest (c .missing)))),
         );
-        otherwise = λ f g. absurd (f _ _ number);
+        malformed = λ f g. absurd (f _ _ number);
       }
 
 -- the bytes of a number read as that number
@@ -62,59 +62,59 @@ reads-leb n rest small =
     let few : length (s .front) ≤ 2 = ⊎-elim (λ l. omega arith) (λ l. absurd (let v = s .value in let m = many-above (s .front) (s .last) (w .shortest (omega arith)) (w .ends) l in omega arith)) (cases-lt (length (s .front)) 3) in
     rw follows (subst (λ v. NumberRead (s .front ++ s .last ∷ rest) (Ok (v, rest))) (s .value) (reads-whole (s .front) (s .last) rest w few))
 
--- marked groups, fewer than three, and no more bytes
-module _ (bytes : List ℕ) (marked : Marked bytes) (few : length bytes ≤ 2) where
+-- groups with their top bit set, fewer than three, and no more bytes
+module _ (bytes : List ℕ) (continued : TopBitSet bytes) (few : length bytes ≤ 2) where
   one-more : Whole bytes 1
-  one-more = record { marked = marked; ends = omega arith; shortest = λ h. omega arith }
+  one-more = record { continued = continued; ends = omega arith; shortest = λ h. omega arith }
 
   cut-here : Cut bytes
   cut-here =
       record {
         number = valueOf (bytes ++ 1 ∷ []);
         missing = 1 ∷ [];
-        some = omega arith;
+        nonempty = omega arith;
         small = few-below bytes 1 (omega arith) few;
-        spelled = sym (leb-of bytes 1 one-more);
+        bytes-are = sym (leb-of bytes 1 one-more);
       }
 
-  none-whole : (n : ℕ) (rest : List ℕ) → Number bytes n rest → ⊥
+  none-whole : (n : ℕ) (rest : List ℕ) → NumberThen bytes n rest → ⊥
   none-whole n rest q =
       let s = leb-shape n in
-      let l = longer-front bytes (s .front) (s .last) rest [] marked (s .whole .ends) (append-nil bytes ∙ q .spelled ∙ follows n rest) in
-      omega (arith, ap length (q .spelled ∙ follows n rest), length-append (s .front) (s .last ∷ rest))
+      let l = longer-front bytes (s .front) (s .last) rest [] continued (s .whole .ends) (append-nil bytes ∙ q .bytes-are ∙ follows n rest) in
+      omega (arith, ap length (q .bytes-are ∙ follows n rest), length-append (s .front) (s .last ∷ rest))
 
   pub reads-cut : NumberRead bytes (Err CutShort)
   reads-cut =
       record {
         read = λ n r. ((λ e. absurd (let z : _≡_ {A = ℕ} 0 1 = cc in omega arith)), (λ q. absurd (none-whole n r q)));
         cut = ((λ e. cut-here), (λ c. refl));
-        otherwise = λ f g. absurd (g cut-here);
+        malformed = λ f g. absurd (g cut-here);
       }
 
 -- bytes that neither begin with a number nor end inside one
 pub reads-neither : (bytes : List ℕ) → ((n : ℕ) (rest more : List ℕ) → n < 2 ^ 21 → leb n ++ rest ≡ bytes ++ more → ⊥) → NumberRead bytes (Err Malformed)
 reads-neither bytes never =
     record {
-      read = λ n r. ((λ e. absurd (let z : _≡_ {A = ℕ} 0 1 = cc in omega arith)), (λ q. absurd (never n r [] (q .small) (sym (q .spelled) ∙ sym (append-nil bytes)))));
-      cut = ((λ e. absurd (let z : _≡_ {A = ℕ} 0 1 = cc in omega arith)), (λ c. absurd (never (c .number) [] (c .missing) (c .small) (append-nil (leb (c .number)) ∙ sym (c .spelled)))));
-      otherwise = λ f g. refl;
+      read = λ n r. ((λ e. absurd (let z : _≡_ {A = ℕ} 0 1 = cc in omega arith)), (λ q. absurd (never n r [] (q .small) (sym (q .bytes-are) ∙ sym (append-nil bytes)))));
+      cut = ((λ e. absurd (omega arith)), (λ c. absurd (never (c .number) [] (c .missing) (c .small) (append-nil (leb (c .number)) ∙ sym (c .bytes-are)))));
+      malformed = λ f g. refl;
     }
 
-pub reads-padded : (front rest : List ℕ) → Marked front → 0 < length front → NumberRead (front ++ 0 ∷ rest) (Err Malformed)
-reads-padded front rest marked some =
+pub reads-padded : (front rest : List ℕ) → TopBitSet front → 0 < length front → NumberRead (front ++ 0 ∷ rest) (Err Malformed)
+reads-padded front rest continued some =
     reads-neither (front ++ 0 ∷ rest) λ n r more small e.
     let s = leb-shape n in
     let w = s .whole in
-    let q = same-end (s .front) front (s .last) 0 r (rest ++ more) (w .marked) marked (w .ends) (omega arith) (sym (follows n r) ∙ e ∙ append-assoc front (0 ∷ rest) more) in
+    let q = same-end (s .front) front (s .last) 0 r (rest ++ more) (w .continued) continued (w .ends) (omega arith) (sym (follows n r) ∙ e ∙ append-assoc front (0 ∷ rest) more) in
     let l = w .shortest in
     omega (arith, ap length (q .0), q .1)
 
-pub reads-long : (front rest : List ℕ) → Marked front → length front ≡ 3 → NumberRead (front ++ rest) (Err Malformed)
-reads-long front rest marked three =
+pub reads-long : (front rest : List ℕ) → TopBitSet front → length front ≡ 3 → NumberRead (front ++ rest) (Err Malformed)
+reads-long front rest continued three =
     reads-neither (front ++ rest) λ n r more small e.
     let s = leb-shape n in
     let w = s .whole in
-    let l = longer-front front (s .front) (s .last) r (rest ++ more) marked (w .ends) (sym (append-assoc front rest more) ∙ sym e ∙ follows n r) in
+    let l = longer-front front (s .front) (s .last) r (rest ++ more) continued (w .ends) (sym (append-assoc front rest more) ∙ sym e ∙ follows n r) in
     let m = many-above (s .front) (s .last) (w .shortest (omega arith)) (w .ends) (omega arith) in
     let v = s .value in
     omega arith
@@ -132,10 +132,10 @@ value-few (a ∷ []) g h = omega arith
 value-few (a ∷ b ∷ []) g h = omega arith
 value-few (a ∷ b ∷ c ∷ cs) g h = absurd (omega arith)
 
--- the reader at place p, having read only marked groups, of the value v
+-- the reader at place p, having read only groups with their top bit set, of the value v
 pub record Reading (bytes : List ℕ) (p v : ℕ) : Type 0 where
   pub within : p ≤ length bytes
-  pub marked : Marked (take p bytes)
+  pub continued : TopBitSet (take p bytes)
   pub value : v ≡ valueOf (take p bytes)
 
 module _ (bytes : List ℕ) (p v : ℕ) (at : Reading bytes p v) where
@@ -145,10 +145,10 @@ module _ (bytes : List ℕ) (p v : ℕ) (at : Reading bytes p v) where
   pub at-end : length bytes ≤ p → p < 3 → NumberRead bytes (Err CutShort)
   at-end h few =
       let e = take-all p bytes h in
-      reads-cut bytes (rw e at (at .marked)) (let w = at .within in omega arith)
+      reads-cut bytes (rw e at (at .continued)) (let w = at .within in omega arith)
 
   pub at-third : p ≡ 3 → NumberRead bytes (Err Malformed)
-  at-third e = subst (λ b. NumberRead b (Err Malformed)) (take-append-drop p bytes) (reads-long (take p bytes) (drop p bytes) (at .marked) (far ∙ e))
+  at-third e = subst (λ b. NumberRead b (Err Malformed)) (take-append-drop p bytes) (reads-long (take p bytes) (drop p bytes) (at .continued) (far ∙ e))
 
   -- at the group g
   module _ (g : ℕ) (h : p < length bytes) (is : g ≡ getD bytes p 0) where
@@ -161,7 +161,7 @@ module _ (bytes : List ℕ) (p v : ℕ) (at : Reading bytes p v) where
     pub at-padding : 0 < p → g ≡ 0 → NumberRead bytes (Err Malformed)
     at-padding some z =
         subst (λ b. NumberRead b (Err Malformed)) (ap (λ x. take p bytes ++ x ∷ drop (p + 1) bytes) (sym z) ∙ here)
-        (reads-padded (take p bytes) (drop (p + 1) bytes) (at .marked) (omega (arith, far)))
+        (reads-padded (take p bytes) (drop (p + 1) bytes) (at .continued) (omega (arith, far)))
 
     module _ (few : p < 3) (x : ℕ) (low : x ≡ g % 128) where
       sum : v + x * 2 ^ (7 * p) % 2 ^ 32 ≡ valueOf (take p bytes ++ g ∷ [])
@@ -174,12 +174,12 @@ module _ (bytes : List ℕ) (p v : ℕ) (at : Reading bytes p v) where
       at-last small shortest =
           rw (sum, take-rest bytes (p + 1))
           (subst (λ b. NumberRead b (Ok (valueOf (take p bytes ++ g ∷ []), drop (p + 1) bytes))) here
-          (reads-whole (take p bytes) g (drop (p + 1) bytes) (record { marked = at .marked; ends = small; shortest = λ k. shortest (omega (arith, far)) }) (omega (arith, far))))
+          (reads-whole (take p bytes) g (drop (p + 1) bytes) (record { continued = at .continued; ends = small; shortest = λ k. shortest (omega (arith, far)) }) (omega (arith, far))))
 
       pub at-mark : 128 ≤ g → g < 256 → Reading bytes (p + 1) (v + x * 2 ^ (7 * p) % 2 ^ 32)
       at-mark large byte =
           record {
             within = omega arith;
-            marked = rw (← next) (all-push (λ y. (128 ≤ y) × (y < 256)) (take p bytes) g (at .marked) (large, byte));
+            continued = rw (← next) (all-push (λ y. (128 ≤ y) × (y < 256)) (take p bytes) g (at .continued) (large, byte));
             value = sum ∙ ap valueOf next;
           }

@@ -8,7 +8,7 @@ use Rattle.letter.specs.declared.letter.Kind.the-variants.{Request}
 use Rattle.letter.specs.declared.letter.Letter.{Letter}
 use Rattle.letter.specs.declared.refusal.Refusal.the-variants.{CutShort, Malformed, NoSuchKind, ItemTooLarge}
 use Rattle.letter.specs.Letters.{kindNumber}
-use Rattle.letter.specs.Numbers.{leb, Marked, NumberRead}
+use Rattle.letter.specs.Numbers.{leb, TopBitSet, NumberRead}
 use Rattle.letter.specs.Bytes.{letterBytes, LetterRead}
 use Rattle.letter.specs.Worked.{Worked}
 use Rattle.letter.proofs.Reading.{reads-cut, reads-padded, reads-leb}
@@ -43,8 +43,8 @@ read-from l bytes e h rest = subst (λ b. LetterRead (b ++ rest) (Ok (l, rest)))
 number-from : (n : ℕ) (bytes rest : List ℕ) → leb n ≡ bytes → n < 2 ^ 21 → NumberRead (bytes ++ rest) (Ok (n, rest))
 number-from n bytes rest e h = subst (λ b. NumberRead (b ++ rest) (Ok (n, rest))) e (reads-leb n rest h)
 
-marked : (g : ℕ) → 128 ≤ g → g < 256 → Marked (g ∷ [])
-marked g h k = ((h, k), tt)
+continued : (g : ℕ) → 128 ≤ g → g < 256 → TopBitSet (g ∷ [])
+continued g h k = ((h, k), tt)
 
 pub worked : Worked
 worked = (
@@ -54,7 +54,7 @@ worked = (
     (
       (CutShort, no-first (0x80 ∷ 0x80 ∷ []) CutShort (reads-cut (0x80 ∷ 0x80 ∷ []) ((omega arith, omega arith), ((omega arith, omega arith), tt)) (omega arith)), refl),
       (
-        (Malformed, no-first (0x81 ∷ 0x00 ∷ []) Malformed (reads-padded (0x81 ∷ []) [] (marked 0x81 (omega arith) (omega arith)) (omega arith)), refl),
+        (Malformed, no-first (0x81 ∷ 0x00 ∷ []) Malformed (reads-padded (0x81 ∷ []) [] (continued 0x81 (omega arith) (omega arith)) (omega arith)), refl),
         (
           (NoSuchKind, strange-kind (0x05 ∷ 0x00 ∷ []) (0x00 ∷ []) 5 (number-from 5 (0x05 ∷ []) (0x00 ∷ []) bytes-5 (omega arith)) refl, refl),
           (

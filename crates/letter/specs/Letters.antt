@@ -18,7 +18,7 @@ kindNumber Disclosure = 2
 kindNumber RequestAck = 3
 kindNumber DisclosureAck = 4
 
--- the kind with a number
+-- the kind that has this number, if any
 abbrev pub kindOf : ℕ → Option Kind
 kindOf n =
     cond (eqb n 1) (Some Request)
@@ -40,10 +40,11 @@ goesToSource Disclosure = false
 goesToSource RequestAck = false
 goesToSource DisclosureAck = true
 
--- the letter that two numbers name, or why there is none
+-- the letter of a kind and an item from outside; 43 if there is no kind, 44 if the item is above 255
+abbrev pub named : Option Kind → ℕ → Result Letter Refusal
+named None item = Err NoSuchKind
+named (Some k) item = cond (ltb item 256) (Ok (record { kind = k; item = item })) (Err ItemTooLarge)
+
+-- the letter that two numbers from outside name
 abbrev pub letterOf : ℕ → ℕ → Result Letter Refusal
-letterOf kind item =
-    elim (kindOf kind) [
-      | None ↦ Err NoSuchKind
-      | Some k ↦ cond (ltb item 256) (Ok (record { kind = k; item = item })) (Err ItemTooLarge)
-    ]
+letterOf kind item = named (kindOf kind) item

@@ -12,19 +12,19 @@ use Rattle.letter.specs.Bytes.{letterBytes, LetterRead}
 
 pub data Case : Type 0 where
   -- a letter and its bytes
-  spells : Letter → List ℕ → Case
+  letter : Letter → List ℕ → Case
   -- bytes, and the number with which they are turned down
   refuses : List ℕ → ℕ → Case
 
 -- the letter has these bytes and is read from them; the bytes are turned down with this number
 abbrev pub Holds : Case → Type 0
-Holds (Case.spells l bytes) = (letterBytes l ≡ bytes) × ((rest : List ℕ) → LetterRead (bytes ++ rest) (Ok (l, rest)))
+Holds (Case.letter l bytes) = (letterBytes l ≡ bytes) × ((rest : List ℕ) → LetterRead (bytes ++ rest) (Ok (l, rest)))
 Holds (Case.refuses bytes number) = (e : Refusal) × LetterRead bytes (Err e) × (refusalNumber e ≡ number)
 
 abbrev pub cases : List Case
 cases =
-    Case.spells (record { kind = Request; item = 127 }) (0x01 ∷ 0x7F ∷ [])
-    ∷ Case.spells (record { kind = Request; item = 200 }) (0x01 ∷ 0xC8 ∷ 0x01 ∷ [])
+    Case.letter (record { kind = Request; item = 127 }) (0x01 ∷ 0x7F ∷ [])
+    ∷ Case.letter (record { kind = Request; item = 200 }) (0x01 ∷ 0xC8 ∷ 0x01 ∷ [])
     ∷ Case.refuses (0x80 ∷ 0x80 ∷ []) 41
     ∷ Case.refuses (0x81 ∷ 0x00 ∷ []) 42
     ∷ Case.refuses (0x05 ∷ 0x00 ∷ []) 43

@@ -1,11 +1,7 @@
-ghost use mathlib.Core.Path.{_≡_};
-ghost use Prim.Native.Nat.{ℕ};
-ghost use mathlib.Core.List.{List};
-ghost use lib.ListN.{length, drop};
 ghost use Rattle.std.specs.declared.result.Result.the-variants.{Ok};
 ghost use Rattle.letter.specs.Letters.{letterOf};
-ghost use Rattle.letter.specs.Numbers.{told};
-ghost use Rattle.letter.specs.Bytes.{LetterRead, WrittenBack, ReadBack, writeAnswer, writeBytes};
+ghost use Rattle.letter.specs.Numbers.{withContents};
+ghost use Rattle.letter.specs.Bytes.{LetterRead, Written, WrittenBack, WriteRefusals};
 use crate::letter::Kind;
 use crate::letter::Letter;
 use crate::number::MOST_GROUPS;
@@ -19,8 +15,8 @@ const LONGEST: usize = 2 * MOST_GROUPS;
 impl Letter {
     /// The letter at the front of the bytes, and the bytes behind it.
     pub fn read(bytes: &[u8]) -> Result<(Letter, &[u8]), Refusal>
-        ensures answer { λ r. ⌜ LetterRead (now (bytes .entry)) (told now r) ⌝ }
-        ensures written_back { λ r. ⌜ WrittenBack (now (bytes .entry)) (told now r) ⌝ }
+        ensures answer { λ r. ⌜ LetterRead (now (bytes .entry)) (withContents now r) ⌝ }
+        ensures written_back { λ r. ⌜ WrittenBack (now (bytes .entry)) (withContents now r) ⌝ }
     {
         let (kind, behind) = read_number(bytes)?;
         let Some(kind) = Kind::from_number(kind) else {
@@ -35,9 +31,7 @@ impl Letter {
 
     /// Writes the letter to the front of `out`, and answers its length.
     pub fn write(self, out: &mut [u8]) -> Result<usize, Refusal>
-        ensures answer { λ r. ⌜ r ≡ writeAnswer (Ok self) (now (out .entry)) ⌝ }
-        ensures bytes { λ _. ⌜ now (out .exit) ≡ writeBytes (Ok self) (now (out .entry)) ⌝ }
-        ensures read_back { λ r. ⌜ ReadBack self (now (out .entry)) r (now (out .exit)) ⌝ }
+        ensures { λ r. ⌜ Written (Ok self) (now (out .entry)) r (now (out .exit)) ⌝ }
     {
         let mut bytes = [0u8; LONGEST];
         let behind = write_number(u32::from(self.kind.number()), &mut bytes, 0);
@@ -52,8 +46,8 @@ impl Letter {
 
 /// Writes the letter that two numbers from outside name, as `Letter::write` does.
 pub fn write_numbers(kind: u32, item: u32, out: &mut [u8]) -> Result<usize, Refusal>
-    ensures answer { λ r. ⌜ r ≡ writeAnswer (letterOf kind item) (now (out .entry)) ⌝ }
-    ensures bytes { λ _. ⌜ now (out .exit) ≡ writeBytes (letterOf kind item) (now (out .entry)) ⌝ }
+    ensures written { λ r. ⌜ Written (letterOf kind item) (now (out .entry)) r (now (out .exit)) ⌝ }
+    ensures refusals { λ r. ⌜ WriteRefusals kind item (now (out .entry)) r ⌝ }
 {
     Letter::from_numbers(kind, item)?.write(out)
 }

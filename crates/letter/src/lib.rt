@@ -21,5 +21,6 @@ pub use number::read_number;
 pub use refusal::Refusal;
 pub use refusal::RefusalDebug;
 pub use refusal::RefusalPartialEq;
-pub use theorems::encoding_stands;
-pub use theorems::worked_values_stand;
+pub use theorems::encoding_law;
+pub use theorems::one_answer;
+pub use theorems::worked_values;

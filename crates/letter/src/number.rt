@@ -3,18 +3,18 @@ ghost use Prim.Native.Nat.{_+_, _^_, _<_, _≤_};
 ghost use lib.ListN.{length};
 ghost use mathlib.Core.List.{_++_};
 ghost use lib.ListN.{take, drop};
-ghost use Rattle.letter.specs.Numbers.{leb, NumberRead, told};
+ghost use Rattle.letter.specs.Numbers.{leb, NumberRead, withContents};
 use crate::refusal::Refusal;
 
 /// The most groups of seven bits that a number may have.
 pub(crate) const MOST_GROUPS: usize = 3;
 
 /// The top bit of a group: another group follows.
-const MARK: u8 = 0x80;
+const TOP_BIT: u8 = 0x80;
 
 /// The number at the front of the bytes, and the bytes behind it.
 pub fn read_number(bytes: &[u8]) -> Result<(u32, &[u8]), Refusal>
-    ensures { λ r. ⌜ NumberRead (now (bytes .entry)) (told now r) ⌝ }
+    ensures { λ r. ⌜ NumberRead (now (bytes .entry)) (withContents now r) ⌝ }
 {
     let mut value: u32 = 0;
     for place in 0..MOST_GROUPS {
@@ -22,7 +22,7 @@ pub fn read_number(bytes: &[u8]) -> Result<(u32, &[u8]), Refusal>
             return Err(Refusal::CutShort);
         };
         value += u32::from(group & 0x7F) << (7 * place);
-        if group < MARK {
+        if group < TOP_BIT {
             if place > 0 && group == 0 {
                 return Err(Refusal::Malformed);
             }

@@ -1,8 +1,8 @@
-//! What is said of a capture.
+//! The text that is printed for a capture.
 ghost use mathlib.Core.Path.{_≡_};
 ghost use Rattle.std.specs.Of.String.{string-bytes};
 ghost use Rattle.std.specs.Vec.{made};
-ghost use Rattle.letters.specs.Report.{Reported};
+ghost use Rattle.letters.specs.Report.{OneText, Reported};
 use letter::Letter;
 use letter::LetterDisplay;
 use std::alloc::AllocError;
@@ -37,35 +37,40 @@ pub fn report(heap: Global, capture: &[u8]) -> Result<String, AllocError>
     Ok(text)
 }
 
+/// No capture has two texts.
+pub fn one_text()
+    ensures { λ _. ⌜ OneText ⌝ }
+{}
+
 #[cfg(test)]
 mod tests {
     use super::report;
     use std::test::*;
 
-    fn said(rt: &LibcRuntime, capture: &[u8], text: &str) -> Result<(), Fail> {
+    fn prints(rt: &LibcRuntime, capture: &[u8], text: &str) -> Result<(), Fail> {
         let made = report(rt.alloc(), capture)?;
         check(made.as_str() == text)
     }
 
     #[test]
     fn nothing(rt: LibcRuntime) -> Result<(), Fail> {
-        said(&rt, &[], "0 letters\n")
+        prints(&rt, &[], "0 letters\n")
     }
 
     #[test]
     fn letters_and_then_none(rt: LibcRuntime) -> Result<(), Fail> {
-        said(
+        prints(
             &rt,
             &[1, 127, 2, 3, 4],
             "request 127\ndisclosure 3\nrefusal 41 at 4\n2 letters\n",
         )?;
-        said(
+        prints(
             &rt,
             &[1, 200, 1, 5, 0, 1, 1],
             "request 200\nrefusal 43 at 3\n1 letters\n",
         )?;
-        said(&rt, &[3, 128, 2], "refusal 44 at 0\n0 letters\n")?;
-        said(
+        prints(&rt, &[3, 128, 2], "refusal 44 at 0\n0 letters\n")?;
+        prints(
             &rt,
             &[4, 255, 1, 3, 128, 0],
             "disclosure-ack 255\nrefusal 42 at 3\n1 letters\n",

@@ -24,8 +24,8 @@ returns-then-group-eq0 c =
     let at = c .in-Some .ensures tt .finds .3 in
     at-padding (c .args .bytes .now) (c .loop-place .place) (c .loop-place .value) (c .loop-place .inv) (c .in-Some .field-0 .now) (at .0) (at .1 0) (c .if-place-gt0 .taken) (c .if-group-eq0 .taken)
 
-pub returns-then-group-lt-MARK : need.returns-then-group-lt-MARK
-returns-then-group-lt-MARK c =
+pub returns-then-group-lt-TOP-BIT : need.returns-then-group-lt-TOP-BIT
+returns-then-group-lt-TOP-BIT c =
     let at = c .in-Some .ensures tt .finds .3 in
     at-last (c .args .bytes .now) (c .loop-place .place) (c .loop-place .value) (c .loop-place .inv) (c .in-Some .field-0 .now) (at .0) (at .1 0) (omega arith) (c .from .result) (c .from .ensures ∙ and-mask (c .in-Some .field-0 .now) 7) (omega arith) (λ h. omega (arith, c .else-place-gt0 .either))
 

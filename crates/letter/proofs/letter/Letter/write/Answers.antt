@@ -7,7 +7,7 @@ use lib.ListN.{length, take, drop, length-append}
 use Rattle.letter.specs.Letters.{kindNumber}
 use Rattle.letter.specs.Numbers.{leb}
 use Rattle.letter.specs.Bytes.{letterBytes}
-use Rattle.letter.proofs.Writes.{both-sizes, both-pieces, short-answer, short-bytes, short-back, whole-answer, whole-bytes, whole-back}
+use Rattle.letter.proofs.Writes.{both-sizes, both-pieces, too-short, long-enough}
 use Rattle.letter.proofs.letter.Letter.write.Needs as need
 
 pub returns-then-out-length : need.returns-then-out-length
@@ -16,7 +16,7 @@ returns-then-out-length c =
     let n = c .write-number-length .result in
     let size = both-sizes l (c .write-number-behind .result) n (c .from .ensures ∙ c .number .ensures) (c .from-2 .ensures) (c .write-number-behind .ensures .end .0) (c .write-number-length .ensures .end .0) in
     let h = c .if-out-length .taken in
-    record { answer = short-answer l (c .args .out .now) n size h; bytes = short-bytes l (c .args .out .now) n size h; read-back = short-back l (c .args .out .now) n size h }
+    too-short l (c .args .out .now) n size h
 
 pub returns : need.returns
 returns c =
@@ -32,5 +32,4 @@ returns c =
     ∙ ap (λ k. leb k ++ leb (c .from-2 .result)) (c .from .ensures ∙ c .number .ensures) ∙ ap (λ i. leb (kindNumber (l .kind)) ++ leb i) (c .from-2 .ensures) in
     let is : c .copy-from-slice .last .self ++ drop (n - 0) (c .args .out .now) ≡ letterBytes l ++ drop n (c .args .out .now) =
     ap (λ b. b ++ drop (n - 0) (c .args .out .now)) copied ∙ ap (λ m. letterBytes l ++ drop m (c .args .out .now)) all in
-    let small : l .item < 256 = omega arith in
-    record { answer = whole-answer l (c .args .out .now) n size h; bytes = is ∙ whole-bytes l (c .args .out .now) n size h; read-back = whole-back l (c .args .out .now) n size h small _ is }
+    long-enough l (c .args .out .now) n size h (omega arith) _ is

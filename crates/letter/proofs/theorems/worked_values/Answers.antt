@@ -1,5 +1,5 @@
 use Rattle.letter.proofs.Worked.{worked}
-use Rattle.letter.proofs.theorems.worked_values_stand.Needs as need
+use Rattle.letter.proofs.theorems.worked_values.Needs as need
 
 pub returns : need.returns
 returns c = worked
