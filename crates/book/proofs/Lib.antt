@@ -6,3 +6,6 @@ pub mod Steps
 pub mod SignWords
 pub mod Terms
 pub mod Chains
+pub mod Words
+pub mod Bodies
+pub mod Forms

@@ -47,7 +47,7 @@ more-of (suc most) bytes is rest e = go (wordIn (codes " and ") bytes) refl e (m
           subst (All GoodItem) (r .0) (b .1, d .1),
         )
 
-items-long : (is : List ItemText) → length is ≤ length (moreItems is)
+pub items-long : (is : List ItemText) → length is ≤ length (moreItems is)
 items-long [] = omega arith
 items-long (i ∷ is) = let ih = items-long is in omega (arith, length-append (itemBytes i) (moreItems is))
 

@@ -2,17 +2,19 @@
 use mathlib.Core.Path.{_≡_}
 use mathlib.Core.List.{List}
 use Prim.Native.Nat.{ℕ, _+_}
+use lib.Chars.{codes}
 use lib.ListN.{length}
 use Rattle.std.specs.declared.result.Result.{Result}
 use Rattle.std.specs.declared.result.Result.the-variants.{Ok, Err}
 use Rattle.std.specs.declared.option.Option.the-variants.{Some, None}
 use Rattle.book.specs.declared.fault.Fault.{Fault}
 use Rattle.book.specs.declared.fault.Fault.the-variants.{NoForm}
+use Rattle.book.specs.declared.parts.ItemParts.{ItemParts}
 use Rattle.book.specs.declared.parts.Line.{Line}
 use Rattle.book.specs.declared.parts.Line.the-variants.{Party, Hold, Rule, Ask}
 use Rattle.book.specs.declared.reader.Reader.{Reader}
 use Rattle.book.specs.Grammar.{ItemText, LineText, lineBytes, moreItems}
-use Rattle.book.specs.Reading.{Parsed, lineIn}
+use Rattle.book.specs.Reading.{Parsed, then, wordIn, itemIn, lineIn}
 use Rattle.book.specs.Places.{left, namePart, itemParts, itemSize}
 
 -- a line by the places of its names and items, where its keyword ends at a place
@@ -41,3 +43,26 @@ LineAnswer (Some p) show size before answer after =
 
 abbrev pub lineSize : LineText → ℕ
 lineSize l = length (lineBytes l)
+
+-- the bytes of a line behind its keyword
+abbrev pub formSize : LineText → ℕ
+formSize (LineText.party n) = length n + 1
+formSize (LineText.hold i) = itemSize i + 1
+formSize (LineText.rule h b bs) = itemSize h + 4 + itemSize b + length (moreItems bs) + 1
+formSize (LineText.ask i) = itemSize i + 1
+
+-- an item and the line's end
+unfoldable pub itemLineIn : List ℕ → Parsed ItemText
+itemLineIn bytes = then (itemIn bytes) λ i b. then (wordIn (codes "\n") b) λ _ rest. Some (i, rest)
+
+abbrev pub itemLineSize : ItemText → ℕ
+itemLineSize i = itemSize i + 1
+
+abbrev pub ItemAnswer : Parsed ItemText → Reader → Result ItemParts Fault → Reader → Type 0
+ItemAnswer None before answer after = (answer ≡ Err NoForm) × (after .text ≡ before .text)
+ItemAnswer (Some p) before answer after =
+    (answer ≡ Ok (itemParts (before .place) (p .0))) × (after .text ≡ before .text) × (after .place ≡ before .place + itemLineSize (p .0)) × (left after ≡ p .1)
+
+-- the other body items with the words between
+abbrev pub moreSize : List ItemText → ℕ
+moreSize is = length (moreItems is)

@@ -2,6 +2,8 @@
 mod fault;
 mod parts;
 mod reader;
+#[cfg(test)]
+mod tests;
 mod theorems;
 
 pub use fault::Fault;

@@ -21,7 +21,7 @@ ghost-self c =
     let r = c .args .self .now in
     let w = r .within in
     let n = name-within (c .rest .result .now) (c .in-Continue-length .length) (c .in-Continue-length .ensures tt) in
-    (omega (arith, ap length (c .rest .ensures) ∙ length-drop (r .place) (r .text .now)), tt)
+    (omega (arith, ap length (c .rest .ensures) ∙ length-drop (r .place) (r .text .now)), (c .args .self .now .fits, tt))
 
 pub returns : need.returns
 returns c = name-moves (c .args .self .now) _ (c .in-Continue-length .length) (c .in-Continue-length .ensures tt ∙ ap (λ b. nameSize (nameIn b)) (c .rest .ensures)) refl refl
