@@ -1,5 +1,6 @@
 ghost use mathlib.Core.Path.{_≡_};
 ghost use mathlib.Core.List.{[], _∷_};
+ghost use Rattle.std.specs.declared.option.Option.the-variants.{None};
 ghost use Rattle.book.specs.Reading.{wordIn, termsIn, credentialIn, itemIn};
 ghost use Rattle.book.specs.Places.{left, Reads, someOneLetter, credentialPart, credentialSize, itemParts, itemSize};
 ghost use Rattle.book.specs.Signs.{firstOf, signIn, signOf, signCode, termsSize};
@@ -100,8 +101,21 @@ impl<'a> Reader<'a> {
         ))
     }
 
-    /// Moves past the item at the place, if there is one.
+    /// Moves past the item at the place, if there is one; else it stays.
     pub fn item(&mut self) -> Option<ItemParts>
+        ensures answer { λ r. ⌜ Reads (itemIn (left (now (self .entry)))) (now (self .entry)) itemParts itemSize r (now (self .exit)) ⌝ }
+        ensures stays { λ r. ⌜ (r ≡ None → now (self .exit) .place ≡ now (self .entry) .place) ⌝ }
+    {
+        let place = self.place;
+        let item = self.item_parts();
+        if item.is_none() {
+            self.place = place;
+        }
+        item
+    }
+
+    /// Moves over the item at the place, as far as it is one.
+    fn item_parts(&mut self) -> Option<ItemParts>
         ensures { λ r. ⌜ Reads (itemIn (left (now (self .entry)))) (now (self .entry)) itemParts itemSize r (now (self .exit)) ⌝ }
     {
         let place = self.place;

@@ -1,8 +1,10 @@
 ghost use mathlib.Core.Path.{_≡_};
+ghost use mathlib.Core.Bool.{true};
 ghost use Prim.Native.Nat.{min};
 ghost use lib.Dec.{eqb};
 ghost use lib.ListN.{length};
 ghost use Rattle.std.specs.declared.option.Option.the-variants.{None};
+ghost use Rattle.std.specs.Results.{isErr};
 ghost use Rattle.book.specs.Reading.{wordIn, moreIn, partyIn, ruleIn, lineIn};
 ghost use Rattle.book.specs.Places.{left, Reads, itemParts};
 ghost use Rattle.book.specs.Lines.{LineAnswer, ItemAnswer, formParts, formSize, itemLineIn, itemLineSize, lineParts, lineSize, moreSize};
@@ -110,8 +112,21 @@ impl<'a> Reader<'a> {
         })
     }
 
-    /// Moves past the line at the place, with the byte that ends it.
+    /// Moves past the line at the place, with the byte that ends it; stays where there is no form.
     pub fn line(&mut self) -> Result<Line, Fault>
+        ensures answer { λ r. ⌜ LineAnswer (lineIn (left (now (self .entry)))) lineParts lineSize (now (self .entry)) r (now (self .exit)) ⌝ }
+        ensures stays { λ r. ⌜ (isErr r ≡ true → now (self .exit) .place ≡ now (self .entry) .place) ⌝ }
+    {
+        let place = self.place;
+        let line = self.line_parts();
+        if line.is_err() {
+            self.place = place;
+        }
+        line
+    }
+
+    /// Moves over the line at the place, as far as it has a form.
+    fn line_parts(&mut self) -> Result<Line, Fault>
         ensures { λ r. ⌜ LineAnswer (lineIn (left (now (self .entry)))) lineParts lineSize (now (self .entry)) r (now (self .exit)) ⌝ }
     {
         if let Some(()) = self.keyword(b"party ") {

@@ -12,18 +12,18 @@ loop-self-holds c = body-start (c .args .self .now)
 
 pub returns-in-rest-item : need.returns-in-rest-item
 returns-in-rest-item c =
-    body-fails (c .args .self .now) (c .loop-self .self) (c .loop-self .count) (c .loop-self .inv) (c .keyword .last .self) (took _ _ _ _ _ _ (c .in-Some .ensures tt .answer)) (c .item .last .self) (c .in-rest-item .ensures tt)
+    body-fails (c .args .self .now) (c .loop-self .self) (c .loop-self .count) (c .loop-self .inv) (c .keyword .last .self) (took _ _ _ _ _ _ (c .in-Some .ensures tt .answer)) (c .item .last .self) (c .in-rest-item .ensures tt .answer)
 
 pub loop-self-again : need.loop-self-again
 loop-self-again c =
     body-next (c .args .self .now) (c .loop-self .self) (c .loop-self .count) (c .loop-self .inv) (c .keyword .last .self) (took _ _ _ _ _ _ (c .in-Some .ensures tt .answer)) (c .in-Some-item .field-0) (c .item .last .self)
-    (took _ _ _ _ _ _ (c .in-Some-item .ensures tt))
+    (took _ _ _ _ _ _ (c .in-Some-item .ensures tt .answer))
 
 pub add-count : need.add-count
 add-count c =
     let s =
     body-next (c .args .self .now) (c .loop-self .self) (c .loop-self .count) (c .loop-self .inv) (c .keyword .last .self) (took _ _ _ _ _ _ (c .in-Some .ensures tt .answer)) (c .in-Some-item .field-0) (c .item .last .self)
-    (took _ _ _ _ _ _ (c .in-Some-item .ensures tt)) in
+    (took _ _ _ _ _ _ (c .in-Some-item .ensures tt .answer)) in
     let k = body-few (c .args .self .now) (c .item .last .self) (c .loop-self .count + 1) s in
     let w = c .item .last .self .within in
     let f = c .item .last .self .fits in
@@ -32,7 +32,7 @@ add-count c =
 pub loop-self-less : need.loop-self-less
 loop-self-less c =
     let a = body-shorter (c .args .self .now) (c .loop-self .self) (c .loop-self .count) (c .loop-self .inv) (c .keyword .last .self) (took _ _ _ _ _ _ (c .in-Some .ensures tt .answer)) in
-    let b = item-shorter (c .keyword .last .self) (c .in-Some-item .field-0) (c .item .last .self) (took _ _ _ _ _ _ (c .in-Some-item .ensures tt)) in
+    let b = item-shorter (c .keyword .last .self) (c .in-Some-item .field-0) (c .item .last .self) (took _ _ _ _ _ _ (c .in-Some-item .ensures tt .answer)) in
     omega arith
 
 pub returns : need.returns

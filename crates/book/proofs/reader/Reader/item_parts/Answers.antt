@@ -1,7 +1,7 @@
 use native.Mathlib.Omega.{arith}
 use Rattle.book.proofs.Steps.{took}
 use Rattle.book.proofs.Chains.{no-source, no-caret, no-credential, no-arrow, no-destination, item-place, item-read}
-use Rattle.book.proofs.reader.Reader.item.Needs as need
+use Rattle.book.proofs.reader.Reader.item_parts.Needs as need
 
 pub returns-in-Break-source : need.returns-in-Break-source
 returns-in-Break-source c = rw (c .from-residual .ensures) (no-source (c .args .self .now) (c .name .last .self) (c .in-Break-source .ensures tt))
