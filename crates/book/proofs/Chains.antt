@@ -14,7 +14,7 @@ use Rattle.book.specs.declared.parts.ItemParts.{ItemParts}
 use Rattle.book.specs.declared.reader.Reader.{Reader}
 use Rattle.book.specs.Grammar.{Name, moreTerms, Credential, credentialBytes, ItemText, itemBytes}
 use Rattle.book.specs.Reading.{Parsed, then, nameIn, wordIn, termsIn, credentialIn, itemIn}
-use Rattle.book.specs.Places.{left, Reads, namePart, someOneLetter, credentialPart, credentialSize, itemParts, itemSize}
+use Rattle.book.specs.Places.{left, Reads, namePart, anyOneLetter, credentialPart, credentialSize, itemParts, itemSize}
 use Rattle.book.specs.Signs.{termsSize}
 use Rattle.book.proofs.Steps.{reads-at, reads-none, Took, took-none, step, stop}
 
@@ -73,17 +73,17 @@ module _ (r0 r1 : Reader) where
               (k .1 ∙ t4 .text ∙ t3 .text ∙ t2 .text ∙ t1 .text)
 
           module _ (p5 : Part) (t5 : NameTook r4 p5 r5) (r6 : Reader) where
-            pub no-rest-terms : Reads (termsIn 3 (left r5)) r5 (λ _ ts. someOneLetter ts) termsSize None r6 → CredentialNone r0 r6
+            pub no-rest-terms : Reads (termsIn 3 (left r5)) r5 (λ _ ts. anyOneLetter ts) termsSize None r6 → CredentialNone r0 r6
             unfolding credentialIn
             no-rest-terms n =
-                let k = took-none (termsIn 3 (left r5)) r5 (λ _ ts. someOneLetter ts) termsSize r6 n in
+                let k = took-none (termsIn 3 (left r5)) r5 (λ _ ts. anyOneLetter ts) termsSize r6 n in
                 reads-none credentialPart credentialSize r0 r6 (credentialIn (left r0))
                 (step (nameIn (left r0)) _ r0 namePart length p1 r1 t1 ∙ step (wordIn (codes ".") (left r1)) _ r1 (λ _ u. u) (λ _. 1) tt r2 t2 ∙ step (nameIn (left r2)) _ r2 namePart length p3 r3 t3
                 ∙ step (wordIn (codes "(") (left r3)) _ r3 (λ _ u. u) (λ _. 1) tt r4 t4 ∙ step (nameIn (left r4)) _ r4 namePart length p5 r5 t5 ∙ stop (termsIn 3 (left r5)) _ (k .0))
                 (k .1 ∙ t5 .text ∙ t4 .text ∙ t3 .text ∙ t2 .text ∙ t1 .text)
 
             -- the whole credential
-            module _ (short : Bool) (t6 : Took (termsIn 3 (left r5)) r5 (λ _ ts. someOneLetter ts) termsSize short r6) where
+            module _ (short : Bool) (t6 : Took (termsIn 3 (left r5)) r5 (λ _ ts. anyOneLetter ts) termsSize short r6) where
               made : Credential
               made = record { issuer = t1 .value; name = t3 .value; term = t5 .value; terms = t6 .value }
 
@@ -111,7 +111,7 @@ module _ (r0 r1 : Reader) where
                   reads-at credentialPart credentialSize r0 r6 (credentialIn (left r0)) made (left r6)
                   (step (nameIn (left r0)) _ r0 namePart length p1 r1 t1 ∙ step (wordIn (codes ".") (left r1)) _ r1 (λ _ u. u) (λ _. 1) tt r2 t2 ∙ step (nameIn (left r2)) _ r2 namePart length p3 r3 t3
                   ∙ step (wordIn (codes "(") (left r3)) _ r3 (λ _ u. u) (λ _. 1) tt r4 t4 ∙ step (nameIn (left r4)) _ r4 namePart length p5 r5 t5
-                  ∙ step (termsIn 3 (left r5)) _ r5 (λ _ ts. someOneLetter ts) termsSize short r6 t6)
+                  ∙ step (termsIn 3 (left r5)) _ r5 (λ _ ts. anyOneLetter ts) termsSize short r6 t6)
                   (record { place = r0 .place; length = r6 .place - r0 .place }, eqb (p1 .length) 1 || (eqb (p3 .length) 1 || (eqb (p5 .length) 1 || short)))
                   (λ j. (record { place = r0 .place; length = size j }, eqb (t1 .shown j .length) 1 || (eqb (t3 .shown j .length) 1 || (eqb (t5 .shown j .length) 1 || t6 .shown j))))
                   (t6 .text ∙ t5 .text ∙ t4 .text ∙ t3 .text ∙ t2 .text ∙ t1 .text) moved refl
@@ -183,7 +183,7 @@ module _ (r0 r1 : Reader) where
 
             pub item-read :
                 Reads (itemIn (left r0)) r0 itemParts itemSize
-                (Some (record { whole = record { place = r0 .place; length = r5 .place - r0 .place }; source = p1; credential = p3; destination = p5; short = eqb (p1 .length) 1 || (short || eqb (p5 .length) 1) })) r5
+                (Some (record { whole = record { place = r0 .place; length = r5 .place - r0 .place }; source = p1; credential = p3; destination = p5; single = eqb (p1 .length) 1 || (short || eqb (p5 .length) 1) })) r5
             unfolding itemIn item
             item-read =
                 let moved : r5 .place ≡ r0 .place + itemSize item = item-place ∙ ap (λ n. r0 .place + n) (sym item-sized) in
@@ -201,5 +201,5 @@ module _ (r0 r1 : Reader) where
                 ∙ step (credentialIn (left r2)) _ r2 credentialPart credentialSize (p3, short) r3 t3 ∙ step (wordIn (codes ">") (left r3)) _ r3 (λ _ u. u) (λ _. 1) tt r4 t4
                 ∙ step (nameIn (left r4)) _ r4 namePart length p5 r5 t5)
                 _
-                (λ j. record { whole = record { place = r0 .place; length = size j }; source = t1 .shown j; credential = c-part j; destination = d-part j; short = eqb (t1 .shown j .length) 1 || (t3 .shown j .1 || eqb (t5 .shown j .length) 1) })
+                (λ j. record { whole = record { place = r0 .place; length = size j }; source = t1 .shown j; credential = c-part j; destination = d-part j; single = eqb (t1 .shown j .length) 1 || (t3 .shown j .1 || eqb (t5 .shown j .length) 1) })
                 (t5 .text ∙ t4 .text ∙ t3 .text ∙ t2 .text ∙ t1 .text) moved refl

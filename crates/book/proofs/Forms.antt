@@ -19,7 +19,7 @@ use Rattle.book.specs.declared.reader.Reader.{Reader}
 use Rattle.book.specs.Grammar.{ItemText, itemBytes, moreItems, LineText, lineBytes}
 use Rattle.book.specs.Reading.{Parsed, then, nameIn, wordIn, itemIn, moreIn, partyIn, holdIn, ruleIn, askIn, behind, lineIn}
 use Rattle.book.specs.Places.{left, Reads, namePart, itemParts, itemSize}
-use Rattle.book.specs.Lines.{LineAnswer, ItemAnswer, formParts, formSize, keywordSize, lineParts, lineSize, itemLineIn, itemLineSize, moreSize}
+use Rattle.book.specs.Lines.{LineAnswer, ItemLineAnswer, formParts, formSize, keywordSize, lineParts, lineSize, itemLineIn, itemLineSize, moreSize}
 use Rattle.book.proofs.Names.{then-some, then-at, some-parts}
 use Rattle.book.proofs.Lines.{items-long}
 use Rattle.book.proofs.Steps.{Took, took, took-none, step, stop}
@@ -66,27 +66,27 @@ module _ (r0 r1 : Reader) where
 
 -- ITEM and the line's end
 module _ (before after : Reader) (P : Parsed ItemText) where
-  item-line-at : (i : ItemText) (rest : List ℕ) → P ≡ Some (i, rest) → (answer : Result ItemParts Fault) → answer ≡ Ok (itemParts (before .place) i) → after .text ≡ before .text → after .place ≡ before .place + itemLineSize i → left after ≡ rest → ItemAnswer P before answer after
-  item-line-at i rest e answer s t p q = subst (λ o. ItemAnswer o before answer after) (sym e) (s, t, p, q)
+  item-line-at : (i : ItemText) (rest : List ℕ) → P ≡ Some (i, rest) → (answer : Result ItemParts Fault) → answer ≡ Ok (itemParts (before .place) i) → after .text ≡ before .text → after .place ≡ before .place + itemLineSize i → left after ≡ rest → ItemLineAnswer P before answer after
+  item-line-at i rest e answer s t p q = subst (λ o. ItemLineAnswer o before answer after) (sym e) (s, t, p, q)
 
-  item-line-none : P ≡ None → after .text ≡ before .text → ItemAnswer P before (Err NoForm) after
-  item-line-none e t = subst (λ o. ItemAnswer o before (Err NoForm) after) (sym e) (refl, t)
+  item-line-none : P ≡ None → after .text ≡ before .text → ItemLineAnswer P before (Err NoForm) after
+  item-line-none e t = subst (λ o. ItemLineAnswer o before (Err NoForm) after) (sym e) (refl, t)
 
 module _ (r0 r1 : Reader) where
-  pub line-no-item : Reads (itemIn (left r0)) r0 itemParts itemSize None r1 → ItemAnswer (itemLineIn (left r0)) r0 (Err NoForm) r1
+  pub line-no-item : Reads (itemIn (left r0)) r0 itemParts itemSize None r1 → ItemLineAnswer (itemLineIn (left r0)) r0 (Err NoForm) r1
   unfolding itemLineIn
   line-no-item n =
       let k = took-none (itemIn (left r0)) r0 itemParts itemSize r1 n in
       item-line-none r0 r1 (itemLineIn (left r0)) (stop (itemIn (left r0)) _ (k .0)) (k .1)
 
   module _ (p : ItemParts) (t1 : ItemStep r0 p r1) (r2 : Reader) where
-    pub line-no-end : Reads (wordIn (codes "\n") (left r1)) r1 (λ _ u. u) (λ _. 1) None r2 → ItemAnswer (itemLineIn (left r0)) r0 (Err NoForm) r2
+    pub line-no-end : Reads (wordIn (codes "\n") (left r1)) r1 (λ _ u. u) (λ _. 1) None r2 → ItemLineAnswer (itemLineIn (left r0)) r0 (Err NoForm) r2
     unfolding itemLineIn
     line-no-end n =
         let k = took-none (wordIn (codes "\n") (left r1)) r1 (λ _ u. u) (λ _. 1) r2 n in
         item-line-none r0 r2 (itemLineIn (left r0)) (step (itemIn (left r0)) _ r0 itemParts itemSize p r1 t1 ∙ stop (wordIn (codes "\n") (left r1)) _ (k .0)) (k .1 ∙ t1 .text)
 
-    pub line-item : WordStep (codes "\n") r1 r2 → ItemAnswer (itemLineIn (left r0)) r0 (Ok p) r2
+    pub line-item : WordStep (codes "\n") r1 r2 → ItemLineAnswer (itemLineIn (left r0)) r0 (Ok p) r2
     unfolding itemLineIn
     line-item t2 =
         let q1 = t1 .place in
@@ -254,7 +254,7 @@ module _ (r0 r1 r2 : Reader) (t : r1 .text ≡ r0 .text) where
   -- a line of one item
   module _ (make : ItemText → LineText) (shown : ItemParts → Line) (k : ℕ)
       (shows : (place : ℕ) (i : ItemText) → lineParts place (make i) ≡ shown (itemParts (place + k) i)) (sizes : (i : ItemText) → lineSize (make i) ≡ k + itemLineSize i) where
-    item-form : (o : Parsed ItemText) → lineIn (left r0) ≡ then o (λ i rest. Some (make i, rest)) → r1 .place ≡ r0 .place + k → (p : ItemParts) → ItemAnswer o r1 (Ok p) r2 → LineAnswer (lineIn (left r0)) lineParts lineSize r0 (Ok (shown p)) r2
+    item-form : (o : Parsed ItemText) → lineIn (left r0) ≡ then o (λ i rest. Some (make i, rest)) → r1 .place ≡ r0 .place + k → (p : ItemParts) → ItemLineAnswer o r1 (Ok p) r2 → LineAnswer (lineIn (left r0)) lineParts lineSize r0 (Ok (shown p)) r2
     item-form None e q p a = absurd (let z = a .0 in let y : _≡_ {A = ℕ} 0 1 = cc in omega arith)
     item-form (Some x) e q p a =
         let s : p ≡ itemParts (r1 .place) (x .0) = let z = a .0 in cc in
@@ -262,7 +262,7 @@ module _ (r0 r1 r2 : Reader) (t : r1 .text ≡ r0 .text) where
         subst (λ o. LineAnswer o lineParts lineSize r0 (Ok (shown p)) r2) (sym e)
         (ap (λ y. Ok (shown y)) (s ∙ ap (λ y. itemParts y (x .0)) q) ∙ ap Ok (sym (shows (r0 .place) (x .0))), a .1 ∙ t, omega (arith, sizes (x .0)), a .3)
 
-    item-misfit : (o : Parsed ItemText) → lineIn (left r0) ≡ then o (λ i rest. Some (make i, rest)) → (f : Fault) → ItemAnswer o r1 (Err f) r2 → LineAnswer (lineIn (left r0)) lineParts lineSize r0 (Err f) r2
+    item-misfit : (o : Parsed ItemText) → lineIn (left r0) ≡ then o (λ i rest. Some (make i, rest)) → (f : Fault) → ItemLineAnswer o r1 (Err f) r2 → LineAnswer (lineIn (left r0)) lineParts lineSize r0 (Err f) r2
     item-misfit None e f a = subst (λ o. LineAnswer o lineParts lineSize r0 (Err f) r2) (sym e) (let z = a .0 in (cc), a .1 ∙ t)
     item-misfit (Some x) e f a = absurd (let z = a .0 in let y : _≡_ {A = ℕ} 0 1 = cc in omega arith)
 
@@ -273,16 +273,16 @@ ask-sizes : (i : ItemText) → lineSize (LineText.ask i) ≡ 4 + itemLineSize i
 ask-sizes i = line-sizes (LineText.ask i)
 
 module _ (r0 r1 r2 : Reader) (t : r1 .text ≡ r0 .text) where
-  pub hold-line : lineIn (left r0) ≡ holdIn (left r1) → r1 .place ≡ r0 .place + 5 → (p : ItemParts) → ItemAnswer (itemLineIn (left r1)) r1 (Ok p) r2 → LineAnswer (lineIn (left r0)) lineParts lineSize r0 (Ok (Hold p)) r2
+  pub hold-line : lineIn (left r0) ≡ holdIn (left r1) → r1 .place ≡ r0 .place + 5 → (p : ItemParts) → ItemLineAnswer (itemLineIn (left r1)) r1 (Ok p) r2 → LineAnswer (lineIn (left r0)) lineParts lineSize r0 (Ok (Hold p)) r2
   hold-line e q p a = item-form r0 r1 r2 t LineText.hold Hold 5 (λ _ _. refl) hold-sizes (itemLineIn (left r1)) (e ∙ holds (left r1)) q p a
 
-  pub hold-misfit : lineIn (left r0) ≡ holdIn (left r1) → (f : Fault) → ItemAnswer (itemLineIn (left r1)) r1 (Err f) r2 → LineAnswer (lineIn (left r0)) lineParts lineSize r0 (Err f) r2
+  pub hold-misfit : lineIn (left r0) ≡ holdIn (left r1) → (f : Fault) → ItemLineAnswer (itemLineIn (left r1)) r1 (Err f) r2 → LineAnswer (lineIn (left r0)) lineParts lineSize r0 (Err f) r2
   hold-misfit e f a = item-misfit r0 r1 r2 t LineText.hold Hold 5 (λ _ _. refl) hold-sizes (itemLineIn (left r1)) (e ∙ holds (left r1)) f a
 
-  pub ask-line : lineIn (left r0) ≡ askIn (left r1) → r1 .place ≡ r0 .place + 4 → (p : ItemParts) → ItemAnswer (itemLineIn (left r1)) r1 (Ok p) r2 → LineAnswer (lineIn (left r0)) lineParts lineSize r0 (Ok (Ask p)) r2
+  pub ask-line : lineIn (left r0) ≡ askIn (left r1) → r1 .place ≡ r0 .place + 4 → (p : ItemParts) → ItemLineAnswer (itemLineIn (left r1)) r1 (Ok p) r2 → LineAnswer (lineIn (left r0)) lineParts lineSize r0 (Ok (Ask p)) r2
   ask-line e q p a = item-form r0 r1 r2 t LineText.ask Ask 4 (λ _ _. refl) ask-sizes (itemLineIn (left r1)) (e ∙ asks (left r1)) q p a
 
-  pub ask-misfit : lineIn (left r0) ≡ askIn (left r1) → (f : Fault) → ItemAnswer (itemLineIn (left r1)) r1 (Err f) r2 → LineAnswer (lineIn (left r0)) lineParts lineSize r0 (Err f) r2
+  pub ask-misfit : lineIn (left r0) ≡ askIn (left r1) → (f : Fault) → ItemLineAnswer (itemLineIn (left r1)) r1 (Err f) r2 → LineAnswer (lineIn (left r0)) lineParts lineSize r0 (Err f) r2
   ask-misfit e f a = item-misfit r0 r1 r2 t LineText.ask Ask 4 (λ _ _. refl) ask-sizes (itemLineIn (left r1)) (e ∙ asks (left r1)) f a
 
 -- a reader that has not moved since r0

@@ -9,3 +9,5 @@ pub mod Chains
 pub mod Words
 pub mod Bodies
 pub mod Forms
+pub mod Laws
+pub mod Answered

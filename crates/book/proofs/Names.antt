@@ -10,13 +10,12 @@ use lib.ListN.{length}
 use Rattle.std.specs.shelf.Lists.{All}
 use Rattle.std.specs.declared.option.Option.{Option}
 use Rattle.std.specs.declared.option.Option.the-variants.{Some, None}
-use Rattle.book.specs.Grammar.{letter, nameByte, Name, GoodName}
-use Rattle.book.specs.Reading.{Parsed, then, run, goodName, nameIn, wordIn}
+use Rattle.book.specs.Grammar.{letter, nameByte, NameEnds, Name, GoodName}
+use Rattle.book.specs.Reading.{Parsed, then, run, nameStart, nameIn, wordIn}
 
 -- what follows a name does not go on with it
 abbrev pub Stop : List ℕ → Type 0
-Stop [] = Unit {0}
-Stop (b ∷ bs) = nameByte b ≡ false
+Stop bytes = NameEnds bytes
 
 pub then-some : {A B : Type 0} (p : Parsed A) (f : A → List ℕ → Parsed B) (q : B × List ℕ) → then p f ≡ Some q → (a : A) × (rest : List ℕ) × (p ≡ Some (a, rest)) × (f a rest ≡ Some q)
 then-some None f q e = absurd (let z : _≡_ {A = ℕ} 0 1 = cc in omega arith)
@@ -49,11 +48,11 @@ run-stop (b ∷ bs) = go (nameByte b) refl (run-stop bs)
     go true e ih = ih
     go false e ih = e
 
-good-is : (n : Name) → All (λ c. T (nameByte c)) n → goodName n ≡ true → GoodName n
+good-is : (n : Name) → All (λ c. T (nameByte c)) n → nameStart n ≡ true → GoodName n
 good-is [] h e = absurd (let z : _≡_ {A = ℕ} 0 1 = cc in omega arith)
 good-is (b ∷ bs) h e = ((grind arith), h .1, (grind arith))
 
-is-good : (n : Name) → GoodName n → goodName n ≡ true
+is-good : (n : Name) → GoodName n → nameStart n ≡ true
 is-good [] g = absurd g
 is-good (b ∷ bs) g = let l = g .0 in let k = g .2 in grind arith
 
@@ -67,9 +66,9 @@ name-at n rest g s = let e = run-at n rest (good-bytes n g) s in rw (e, is-good 
 
 pub name-of : (bytes n rest : List ℕ) → nameIn bytes ≡ Some (n, rest) → (bytes ≡ n ++ rest) × GoodName n × Stop rest
 unfolding nameIn
-name-of bytes n rest e = go (goodName (run bytes .0)) refl e
+name-of bytes n rest e = go (nameStart (run bytes .0)) refl e
   where
-    go : (t : Bool) → goodName (run bytes .0) ≡ t → cond {A = Parsed Name} t (Some (run bytes)) None ≡ Some (n, rest) → (bytes ≡ n ++ rest) × GoodName n × Stop rest
+    go : (t : Bool) → nameStart (run bytes .0) ≡ t → cond {A = Parsed Name} t (Some (run bytes)) None ≡ Some (n, rest) → (bytes ≡ n ++ rest) × GoodName n × Stop rest
     go true g f =
         let p = some-parts (run bytes .0) n (run bytes .1) rest f in
         (run-whole bytes ∙ (λ i. p .0 i ++ p .1 i), subst GoodName (p .0) (good-is (run bytes .0) (run-good bytes) g), subst Stop (p .1) (run-stop bytes))

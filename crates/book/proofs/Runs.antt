@@ -12,7 +12,7 @@ use Rattle.std.proofs.shelf.Elements.{all-push}
 use Rattle.std.proofs.shelf.Lists.{append-nil, take-append-drop, take-all, take-more, drop-more, drop-all, length-take-le}
 use Rattle.book.specs.Grammar.{nameByte}
 use Rattle.std.specs.declared.option.Option.the-variants.{Some, None}
-use Rattle.book.specs.Reading.{run, goodName, nameIn}
+use Rattle.book.specs.Reading.{run, nameStart, nameIn}
 use Rattle.book.specs.Places.{letterFirst, nameSize}
 use Rattle.book.proofs.Names.{Stop, run-at, run-whole}
 
@@ -37,7 +37,7 @@ run-more bytes i l h e =
     let t : T (nameByte (getD bytes i 0)) = subst T (sym e) tt in
     subst NameBytes (sym (take-more bytes i 0 l)) (all-push (λ b. T (nameByte b)) (take i bytes) (getD bytes i 0) h t)
 
-good-front : (bytes : List ℕ) → goodName (run bytes .0) ≡ (letterFirst bytes && leb (length (run bytes .0)) 16)
+good-front : (bytes : List ℕ) → nameStart (run bytes .0) ≡ (letterFirst bytes && leb (length (run bytes .0)) 16)
 good-front [] = refl
 good-front (b ∷ bs) = grind arith
 

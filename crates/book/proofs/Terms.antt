@@ -14,7 +14,7 @@ use Rattle.book.specs.declared.reader.items.Sign.{Sign}
 use Rattle.book.specs.declared.reader.items.Sign.the-variants.{Caret, Dot, Open, Comma, Close, Arrow}
 use Rattle.book.specs.Grammar.{Name, moreTerms}
 use Rattle.book.specs.Reading.{Parsed, then, nameIn, termsIn}
-use Rattle.book.specs.Places.{left, Reads, namePart, oneLetter, someOneLetter}
+use Rattle.book.specs.Places.{left, Reads, namePart, oneLetter, anyOneLetter}
 use Rattle.book.specs.Signs.{signIn, signCode, termsSize}
 use Rattle.book.proofs.Names.{then-at}
 use Rattle.book.proofs.Steps.{reads-at, reads-none, Took, took, took-none}
@@ -53,10 +53,10 @@ unfolding termsIn
 terms-more more bytes rest e = rw e refl
 
 abbrev Short : ℕ → List Name → Bool
-Short place ts = someOneLetter ts
+Short place ts = anyOneLetter ts
 
 module _ (most : ℕ) (r0 r1 : Reader) where
-  pub no-terms : Reads (signIn (left r0)) r0 (λ _ s. s) (λ _. 1) None r1 → Reads (termsIn most (left r0)) r0 (λ _ ts. someOneLetter ts) termsSize None r1
+  pub no-terms : Reads (signIn (left r0)) r0 (λ _ s. s) (λ _. 1) None r1 → Reads (termsIn most (left r0)) r0 (λ _ ts. anyOneLetter ts) termsSize None r1
   no-terms r =
       let k = took-none (signIn (left r0)) r0 (λ _ s. s) (λ _. 1) r1 r in
       reads-none Short termsSize r0 r1 (termsIn most (left r0)) (terms-nothing most (left r0) (k .0)) (k .1)
@@ -68,14 +68,14 @@ module _ (most : ℕ) (r0 r1 : Reader) where
     bytes-are : left r0 ≡ signCode t ∷ left r1
     bytes-are = sign-first (left r0) t (left r1) (first .parsed ∙ sym (λ j. Some (first .shown j, first .left-is j)))
 
-    pub last-term : t ≡ Close → Reads (termsIn most (left r0)) r0 (λ _ ts. someOneLetter ts) termsSize (Some false) r1
+    pub last-term : t ≡ Close → Reads (termsIn most (left r0)) r0 (λ _ ts. anyOneLetter ts) termsSize (Some false) r1
     last-term e =
         reads-at Short termsSize r0 r1 (termsIn most (left r0)) [] (left r1) (terms-end most (left r0) (left r1) (bytes-are ∙ ap (λ s. signCode s ∷ left r1) e)) false refl (first .text) (first .place) refl
 
-    pub no-term-sign : (t ≡ Close → ⊥) → (t ≡ Comma → ⊥) → Reads (termsIn most (left r0)) r0 (λ _ ts. someOneLetter ts) termsSize None r1
+    pub no-term-sign : (t ≡ Close → ⊥) → (t ≡ Comma → ⊥) → Reads (termsIn most (left r0)) r0 (λ _ ts. anyOneLetter ts) termsSize None r1
     no-term-sign n m = reads-none Short termsSize r0 r1 (termsIn most (left r0)) (terms-wrong most (left r0) (left r1) t bytes-are n m) (first .text)
 
-    pub too-many : t ≡ Comma → most ≡ 0 → Reads (termsIn most (left r0)) r0 (λ _ ts. someOneLetter ts) termsSize None r1
+    pub too-many : t ≡ Comma → most ≡ 0 → Reads (termsIn most (left r0)) r0 (λ _ ts. anyOneLetter ts) termsSize None r1
     too-many e z =
         reads-none Short termsSize r0 r1 (termsIn most (left r0)) (ap (λ m. termsIn m (left r0)) z ∙ terms-full (left r0) (left r1) (bytes-are ∙ ap (λ s. signCode s ∷ left r1) e)) (first .text)
 
@@ -84,7 +84,7 @@ module _ (most : ℕ) (r0 r1 : Reader) where
       goes-on : termsIn most (left r0) ≡ then (nameIn (left r1)) (λ t r. then (termsIn more r) (λ ts b. Some (t ∷ ts, b)))
       goes-on = ap (λ k. termsIn k (left r0)) m ∙ terms-more more (left r0) (left r1) (bytes-are ∙ ap (λ s. signCode s ∷ left r1) e)
 
-      pub no-term : Reads (nameIn (left r1)) r1 namePart length None r2 → Reads (termsIn most (left r0)) r0 (λ _ ts. someOneLetter ts) termsSize None r2
+      pub no-term : Reads (nameIn (left r1)) r1 namePart length None r2 → Reads (termsIn most (left r0)) r0 (λ _ ts. anyOneLetter ts) termsSize None r2
       no-term n =
           let k = took-none (nameIn (left r1)) r1 namePart length r2 n in
           reads-none Short termsSize r0 r2 (termsIn most (left r0)) (goes-on ∙ rw (k .0) refl) (k .1 ∙ first .text)
@@ -96,15 +96,15 @@ module _ (most : ℕ) (r0 r1 : Reader) where
         and-then : termsIn most (left r0) ≡ then (termsIn more (left r2)) (λ ts b. Some (second .value ∷ ts, b))
         and-then = goes-on ∙ rw (second .parsed) (ap (λ b. then (termsIn more b) (λ ts b. Some (second .value ∷ ts, b))) (sym (second .left-is)))
 
-        pub no-more-terms : Reads (termsIn more (left r2)) r2 (λ _ ts. someOneLetter ts) termsSize None r3 → Reads (termsIn most (left r0)) r0 (λ _ ts. someOneLetter ts) termsSize None r3
+        pub no-more-terms : Reads (termsIn more (left r2)) r2 (λ _ ts. anyOneLetter ts) termsSize None r3 → Reads (termsIn most (left r0)) r0 (λ _ ts. anyOneLetter ts) termsSize None r3
         no-more-terms q =
-            let k = took-none (termsIn more (left r2)) r2 (λ _ ts. someOneLetter ts) termsSize r3 q in
+            let k = took-none (termsIn more (left r2)) r2 (λ _ ts. anyOneLetter ts) termsSize r3 q in
             reads-none Short termsSize r0 r3 (termsIn most (left r0)) (and-then ∙ rw (k .0) refl) (k .1 ∙ second .text ∙ first .text)
 
-        pub all-terms : (short : Bool) → Reads (termsIn more (left r2)) r2 (λ _ ts. someOneLetter ts) termsSize (Some short) r3 →
-            Reads (termsIn most (left r0)) r0 (λ _ ts. someOneLetter ts) termsSize (Some (eqb (part .length) 1 || short)) r3
+        pub all-terms : (short : Bool) → Reads (termsIn more (left r2)) r2 (λ _ ts. anyOneLetter ts) termsSize (Some short) r3 →
+            Reads (termsIn most (left r0)) r0 (λ _ ts. anyOneLetter ts) termsSize (Some (eqb (part .length) 1 || short)) r3
         all-terms short q =
-            let k = took (termsIn more (left r2)) r2 (λ _ ts. someOneLetter ts) termsSize short r3 q in
+            let k = took (termsIn more (left r2)) r2 (λ _ ts. anyOneLetter ts) termsSize short r3 q in
             let sizes : length (moreTerms (second .value ∷ k .value)) ≡ 1 + length (second .value) + length (moreTerms (k .value)) = omega (arith, length-append (second .value) (moreTerms (k .value))) in
             let p1 = first .place in
             let p2 = second .place in

@@ -1,4 +1,4 @@
--- The lines of a book as a reader writes them: names, items and the four forms, and their bytes.
+-- The lines of a book as they are written: names, items and the four forms, when they are good, and their bytes.
 use mathlib.Core.Bool.{Bool, true, false, _&&_, _||_}
 use mathlib.Core.List.{List, [], _∷_, _++_}
 use mathlib.Core.Path.{_≡_}
@@ -19,12 +19,17 @@ nameByte b = letter b || (leb 48 b && leb b 57)
 abbrev pub Name : Type 0
 Name = List ℕ
 
--- a letter first, then letters and digits, 1 to 16 bytes
+-- a well-formed name: a letter first, then letters and digits, 1 to 16 bytes
 abbrev pub GoodName : Name → Type 0
 GoodName [] = ⊥
 GoodName (b ∷ bs) = T (letter b) × All (λ c. T (nameByte c)) bs × (length bs ≤ 15)
 
--- what an issuer states: a credential name with one to four terms
+-- bytes that do not go on with a name
+abbrev pub NameEnds : List ℕ → Type 0
+NameEnds [] = Unit {0}
+NameEnds (b ∷ bs) = nameByte b ≡ false
+
+-- what an issuer states: a credential name with one to four terms, the first and up to three others
 pub record Credential : Type 0 where
   pub issuer : Name
   pub name : Name

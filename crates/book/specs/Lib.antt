@@ -4,3 +4,4 @@ pub mod Reading
 pub mod Places
 pub mod Signs
 pub mod Lines
+pub mod Laws

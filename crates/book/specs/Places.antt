@@ -17,7 +17,7 @@ use Rattle.book.specs.Reading.{Parsed}
 abbrev pub left : Reader → List ℕ
 left r = drop (r .place) (r .text .now)
 
--- a reader that parsed what stands at its place: it answers that, shown by its place, and moved behind it;
+-- a reader that parsed what stands at its place answers that by its places in the text, and moved behind it;
 -- where nothing could be parsed, it answers none
 abbrev pub Reads : {A B : Type 0} → Parsed A → Reader → (ℕ → A → B) → (A → ℕ) → Option B → Reader → Type 0
 Reads None before show size answer after = (answer ≡ None) × (after .text ≡ before .text)
@@ -37,25 +37,25 @@ nameSize (Some p) = Some (length (p .0))
 abbrev pub namePart : ℕ → Name → Part
 namePart place n = record { place = place; length = length n }
 
--- a name of one letter is a variable in the language that books come from; a book has none
+-- a name of one letter has the form of a name, and is a fault of its own
 abbrev pub oneLetter : Name → Bool
 oneLetter n = eqb (length n) 1
 
-abbrev pub someOneLetter : List Name → Bool
-someOneLetter [] = false
-someOneLetter (n ∷ ns) = let r = someOneLetter ns in oneLetter n || r
+abbrev pub anyOneLetter : List Name → Bool
+anyOneLetter [] = false
+anyOneLetter (n ∷ ns) = let r = anyOneLetter ns in oneLetter n || r
 
-abbrev pub shortCredential : Credential → Bool
-shortCredential c = oneLetter (c .issuer) || (oneLetter (c .name) || (oneLetter (c .term) || someOneLetter (c .terms)))
+abbrev pub credentialOneLetter : Credential → Bool
+credentialOneLetter c = oneLetter (c .issuer) || (oneLetter (c .name) || (oneLetter (c .term) || anyOneLetter (c .terms)))
 
-abbrev pub shortItem : ItemText → Bool
-shortItem i = oneLetter (i .source) || (shortCredential (i .credential) || oneLetter (i .destination))
+abbrev pub itemOneLetter : ItemText → Bool
+itemOneLetter i = oneLetter (i .source) || (credentialOneLetter (i .credential) || oneLetter (i .destination))
 
 abbrev pub credentialSize : Credential → ℕ
 credentialSize c = length (credentialBytes c)
 
 abbrev pub credentialPart : ℕ → Credential → Part × Bool
-credentialPart place c = (record { place = place; length = credentialSize c }, shortCredential c)
+credentialPart place c = (record { place = place; length = credentialSize c }, credentialOneLetter c)
 
 abbrev pub itemSize : ItemText → ℕ
 itemSize i = length (itemBytes i)
@@ -68,5 +68,5 @@ itemParts place i =
       source = record { place = place; length = length (i .source) };
       credential = record { place = place + length (i .source) + 1; length = credentialSize (i .credential) };
       destination = record { place = place + length (i .source) + 1 + credentialSize (i .credential) + 1; length = length (i .destination) };
-      short = shortItem i;
+      single = itemOneLetter i;
     }

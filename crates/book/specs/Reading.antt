@@ -24,20 +24,21 @@ abbrev pub run : List ℕ → List ℕ × List ℕ
 run [] = ([], [])
 run (b ∷ bs) = let r = run bs in cond (nameByte b) (b ∷ r .0, r .1) ([], b ∷ bs)
 
-abbrev pub goodName : Name → Bool
-goodName [] = false
-goodName (b ∷ bs) = letter b && leb (length bs) 15
+-- of a run of name bytes: a letter first, 1 to 16 bytes
+abbrev pub nameStart : Name → Bool
+nameStart [] = false
+nameStart (b ∷ bs) = letter b && leb (length bs) 15
 
 unfoldable pub nameIn : List ℕ → Parsed Name
-nameIn bytes = let r = run bytes in cond (goodName (r .0)) (Some r) None
+nameIn bytes = let r = run bytes in cond (nameStart (r .0)) (Some r) None
 
--- a word to the letter
+-- exactly these bytes
 unfoldable pub wordIn : List ℕ → List ℕ → Parsed (Unit {0})
 wordIn [] bytes = Some (tt, bytes)
 wordIn (w ∷ ws) [] = None
 wordIn (w ∷ ws) (b ∷ bs) = let r = wordIn ws bs in cond (eqb w b) r None
 
--- at most `most` terms behind the first, and the closing mark
+-- at most `most` terms behind the first, each behind a comma (byte 44), and the closing parenthesis (byte 41)
 unfoldable pub termsIn : ℕ → List ℕ → Parsed (List Name)
 termsIn most [] = None
 termsIn zero (b ∷ bs) = cond (eqb 41 b) (Some ([], bs)) None
@@ -64,7 +65,8 @@ itemIn bytes =
     then (nameIn b4) λ d rest.
     Some (record { source = s; credential = c; destination = d }, rest)
 
--- the other body items, at most `most`, each behind the word `and`
+-- the other body items, at most `most`, each behind the word `and`; an item takes more than one byte, so a bound of as many
+-- as there are bytes never cuts
 unfoldable pub moreIn : ℕ → List ℕ → Parsed (List ItemText)
 moreIn zero bytes = Some ([], bytes)
 moreIn (suc most) bytes =
@@ -92,7 +94,7 @@ ruleIn bytes =
 unfoldable pub askIn : List ℕ → Parsed LineText
 askIn bytes = then (itemIn bytes) λ i b. then (wordIn (codes "\n") b) λ _ rest. Some (LineText.ask i, rest)
 
--- the first of two readings that fits its keyword decides
+-- where the word stands, the form is read behind it; else the other reading
 abbrev pub behind : List ℕ → List ℕ → (List ℕ → Parsed LineText) → Parsed LineText → Parsed LineText
 behind word bytes form other = elim (wordIn word bytes) [ None ↦ other | Some p ↦ form (p .1) ]
 

@@ -1,4 +1,4 @@
--- The signs that part an item, as the reader knows them.
+-- For the inner contracts of the reader: the signs ^ . ( , ) > that part an item.
 use mathlib.Core.Path.{_≡_}
 use mathlib.Core.Bool.{cond}
 use mathlib.Core.List.{List, [], _∷_}

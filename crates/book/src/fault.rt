@@ -16,9 +16,9 @@ pub enum Fault {
     NotEnrolled,
     /// The owner of a rule is neither the source nor the destination of a body item.
     Strange,
-    /// One party, item, rule or body item more than a house may have.
+    /// One party, item or rule more than a house may have, or one item more than a body may have.
     TooMany,
-    /// An item is asked for a second time.
+    /// A second line asks for an item.
     SecondAsk,
 }
 

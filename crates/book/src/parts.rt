@@ -12,8 +12,8 @@ pub struct ItemParts {
     pub source: Part,
     pub credential: Part,
     pub destination: Part,
-    /// Whether some name of the item has one letter.
-    pub short: bool,
+    /// Whether some name of the item is a single letter.
+    pub single: bool,
 }
 
 /// What a line says, by the places of its names and items.
@@ -23,7 +23,7 @@ pub enum Line {
     Party(Part),
     /// An item is held: a rule with an empty body.
     Hold(ItemParts),
-    /// The head may be disclosed once the body is known: `count` items, the first of which is written at `body`.
+    /// A head and a body of `count` items, as written, the first of which is at `body`; `Reader::item` reads each.
     Rule {
         head: ItemParts,
         body: usize,

@@ -41,7 +41,7 @@ fn the_four_forms() -> Result<(), Fail> {
             place: 28,
             length: 7,
         },
-        short: false,
+        single: false,
     };
     check_eq(
         line_of(b"hold Port^Port.berth(Quay4)>Shipper\n"),
@@ -64,7 +64,7 @@ fn the_four_forms() -> Result<(), Fail> {
             place: 17,
             length: 2,
         },
-        short: true,
+        single: true,
     };
     check_eq(
         line_of(b"rule Aa^Bb.cc(x)>Dd if Bb^Bb.ee(ff)>Aa and Cc^Cc.gg(hh)>Aa\n"),
@@ -132,10 +132,29 @@ fn rules() -> Result<(), Fail> {
 }
 
 #[test]
+fn line_after_line() -> Result<(), Fail> {
+    let mut reader = Reader::new(b"party Seal\nask Aa^Bb.cc(dd)>Ee\nhold Aa^", 0);
+    check(reader.line().is_ok())?;
+    check(reader.line().is_ok())?;
+    check(reader.line().is_err())?;
+    check(reader.line().is_err())?;
+    check(!reader.at_end())?;
+    let mut items = Reader::new(b"Aa^Bb.cc(dd)>Ee and", 0);
+    check(items.item().is_some())?;
+    check(items.item().is_none())?;
+    check(!items.at_end())
+}
+
+#[test]
 fn numbers_of_faults() -> Result<(), Fail> {
     check_eq(Fault::TooLong.number(), 1)?;
     check_eq(line_of(b"?"), Err(Fault::NoForm))?;
     check_eq(Fault::NoForm.number(), 2)?;
+    check_eq(Fault::OneLetter.number(), 3)?;
+    check_eq(Fault::EnrolledBefore.number(), 4)?;
+    check_eq(Fault::NotEnrolled.number(), 5)?;
+    check_eq(Fault::Strange.number(), 6)?;
+    check_eq(Fault::TooMany.number(), 7)?;
     check_eq(Fault::SecondAsk.number(), 8)?;
     check(Reader::new(b"ab", 2).at_end())?;
     check(Reader::new(b"ab", 3).at_end())?;

@@ -15,7 +15,7 @@ use Rattle.table.specs.declared.store.Full.{Full}
 abbrev pub held : {T : Type 0} {N : ℕ} → Table T N → List T
 held t = take (t .len) (t .slots)
 
--- what a look at a place answers
+-- what stands at a place: the value there, or none past the end
 abbrev pub Read : {T : Type 0} → List T → ℕ → Option T → Type 0
 Read xs place (Some x) = (place < length xs) × (x ≡ getD xs place x)
 Read xs place None = length xs ≤ place

@@ -1,8 +1,8 @@
 ghost use mathlib.Core.Path.{_≡_};
 ghost use mathlib.Core.List.{[], _∷_};
-ghost use Rattle.std.specs.declared.option.Option.the-variants.{None};
 ghost use Rattle.book.specs.Reading.{wordIn, termsIn, credentialIn, itemIn};
-ghost use Rattle.book.specs.Places.{left, Reads, someOneLetter, credentialPart, credentialSize, itemParts, itemSize};
+ghost use Rattle.book.specs.Places.{left, Reads, anyOneLetter, credentialPart, credentialSize, itemParts, itemSize};
+ghost use Rattle.book.specs.Lines.{ItemRead};
 ghost use Rattle.book.specs.Signs.{firstOf, signIn, signOf, signCode, termsSize};
 use super::Reader;
 use crate::parts::ItemParts;
@@ -57,30 +57,30 @@ impl<'a> Reader<'a> {
         Some(sign)
     }
 
-    /// Moves past the sign at the place, if it is this one.
+    /// Moves past the sign at the place; none if it is another one.
     fn expect(&mut self, sign: Sign) -> Option<()>
         ensures { λ r. ⌜ Reads (wordIn (signCode sign ∷ []) (left (now (self .entry)))) (now (self .entry)) (λ _ u. u) (λ _. 1) r (now (self .exit)) ⌝ }
     {
         if self.sign()? == sign { Some(()) } else { None }
     }
 
-    /// Moves past the terms behind the first, at most `most`, and the closing sign; answers whether one has one letter.
+    /// Moves over the terms behind the first, at most `most`, and the closing sign; answers whether one has one letter.
     fn terms(&mut self, most: u8) -> Option<bool>
-        ensures { λ r. ⌜ Reads (termsIn most (left (now (self .entry)))) (now (self .entry)) (λ _ ts. someOneLetter ts) termsSize r (now (self .exit)) ⌝ }
+        ensures { λ r. ⌜ Reads (termsIn most (left (now (self .entry)))) (now (self .entry)) (λ _ ts. anyOneLetter ts) termsSize r (now (self .exit)) ⌝ }
     {
         match self.sign()? {
             Sign::Close => Some(false),
             Sign::Comma => {
                 let more = most.checked_sub(1)?;
                 let term = self.name()?;
-                let short = self.terms(more)?;
-                Some((term.length == 1) | short)
+                let single = self.terms(more)?;
+                Some((term.length == 1) | single)
             }
             _ => None,
         }
     }
 
-    /// Moves past the credential at the place; answers where it is, and whether a name in it has one letter.
+    /// Moves over the credential at the place; answers where it is, and whether a name in it has one letter.
     fn credential(&mut self) -> Option<(Part, bool)>
         ensures { λ r. ⌜ Reads (credentialIn (left (now (self .entry)))) (now (self .entry)) credentialPart credentialSize r (now (self .exit)) ⌝ }
     {
@@ -90,21 +90,21 @@ impl<'a> Reader<'a> {
         let name = self.name()?;
         self.expect(Sign::Open)?;
         let term = self.name()?;
-        let short = self.terms(MORE_TERMS)?;
+        let single = self.terms(MORE_TERMS)?;
         let part = Part {
             place,
             length: self.place - place,
         };
         Some((
             part,
-            (issuer.length == 1) | ((name.length == 1) | ((term.length == 1) | short)),
+            (issuer.length == 1) | ((name.length == 1) | ((term.length == 1) | single)),
         ))
     }
 
     /// Moves past the item at the place, if there is one; else it stays.
     pub fn item(&mut self) -> Option<ItemParts>
+        ensures read { λ r. ⌜ ItemRead (now (self .entry)) r (now (self .exit)) ⌝ }
         ensures answer { λ r. ⌜ Reads (itemIn (left (now (self .entry)))) (now (self .entry)) itemParts itemSize r (now (self .exit)) ⌝ }
-        ensures stays { λ r. ⌜ (r ≡ None → now (self .exit) .place ≡ now (self .entry) .place) ⌝ }
     {
         let place = self.place;
         let item = self.item_parts();
@@ -121,20 +121,20 @@ impl<'a> Reader<'a> {
         let place = self.place;
         let source = self.name()?;
         self.expect(Sign::Caret)?;
-        let (credential, short) = self.credential()?;
+        let (credential, single) = self.credential()?;
         self.expect(Sign::Arrow)?;
         let destination = self.name()?;
         let whole = Part {
             place,
             length: self.place - place,
         };
-        let short = (source.length == 1) | (short | (destination.length == 1));
+        let single = (source.length == 1) | (single | (destination.length == 1));
         Some(ItemParts {
             whole,
             source,
             credential,
             destination,
-            short,
+            single,
         })
     }
 }

@@ -1,13 +1,11 @@
 ghost use mathlib.Core.Path.{_≡_};
-ghost use mathlib.Core.Bool.{true};
 ghost use Prim.Native.Nat.{min};
 ghost use lib.Dec.{eqb};
 ghost use lib.ListN.{length};
 ghost use Rattle.std.specs.declared.option.Option.the-variants.{None};
-ghost use Rattle.std.specs.Results.{isErr};
 ghost use Rattle.book.specs.Reading.{wordIn, moreIn, partyIn, ruleIn, lineIn};
 ghost use Rattle.book.specs.Places.{left, Reads, itemParts};
-ghost use Rattle.book.specs.Lines.{LineAnswer, ItemAnswer, formParts, formSize, itemLineIn, itemLineSize, lineParts, lineSize, moreSize};
+ghost use Rattle.book.specs.Lines.{LineRead, LineAnswer, ItemLineAnswer, formParts, formSize, itemLineIn, itemLineSize, lineParts, lineSize, moreSize};
 use super::Reader;
 use crate::fault::Fault;
 use crate::parts::ItemParts;
@@ -74,7 +72,7 @@ impl<'a> Reader<'a> {
 
     /// Moves past an item and the line's end.
     fn item_line(&mut self) -> Result<ItemParts, Fault>
-        ensures { λ r. ⌜ ItemAnswer (itemLineIn (left (now (self .entry)))) (now (self .entry)) r (now (self .exit)) ⌝ }
+        ensures { λ r. ⌜ ItemLineAnswer (itemLineIn (left (now (self .entry)))) (now (self .entry)) r (now (self .exit)) ⌝ }
     {
         let Some(item) = self.item() else {
             return Err(Fault::NoForm);
@@ -114,8 +112,7 @@ impl<'a> Reader<'a> {
 
     /// Moves past the line at the place, with the byte that ends it; stays where there is no form.
     pub fn line(&mut self) -> Result<Line, Fault>
-        ensures answer { λ r. ⌜ LineAnswer (lineIn (left (now (self .entry)))) lineParts lineSize (now (self .entry)) r (now (self .exit)) ⌝ }
-        ensures stays { λ r. ⌜ (isErr r ≡ true → now (self .exit) .place ≡ now (self .entry) .place) ⌝ }
+        ensures { λ r. ⌜ LineRead (now (self .entry)) r (now (self .exit)) ⌝ }
     {
         let place = self.place;
         let line = self.line_parts();

@@ -55,7 +55,7 @@ impl<T: Copy, const N: usize> Table<T, N> {
         Ok(())
     }
 
-    /// Lets all values go.
+    /// Empties the table.
     pub fn clear(&mut self)
         ensures { λ _. ⌜ held (now (self .exit)) ≡ [] ⌝ }
     {

@@ -22,14 +22,14 @@ returns-in-Break-term t c =
     (no-term (c .args .most) (c .args .self .now) (c .sign .last .self) (c .in-Continue-sign .field-0) (c .in-Continue-sign .ensures tt) (c .in-Comma .is) (c .in-Continue-more .more) (omega (arith, c .in-Continue-more .ensures tt))
     (c .name .last .self) (c .in-Break-term .ensures tt))
 
-pub returns-in-Break-short : need.returns-in-Break-short
-returns-in-Break-short t c =
-    rw (c .from-residual-in-Break-short .ensures)
+pub returns-in-Break-single : need.returns-in-Break-single
+returns-in-Break-single t c =
+    rw (c .from-residual-in-Break-single .ensures)
     (no-more-terms (c .args .most) (c .args .self .now) (c .sign .last .self) (c .in-Continue-sign .field-0) (c .in-Continue-sign .ensures tt) (c .in-Comma .is) (c .in-Continue-more .more) (omega (arith, c .in-Continue-more .ensures tt))
-    (c .name .last .self) (c .in-Continue-term .term) (c .in-Continue-term .ensures tt) (c .terms .last .self) (c .in-Break-short .ensures tt))
+    (c .name .last .self) (c .in-Continue-term .term) (c .in-Continue-term .ensures tt) (c .terms .last .self) (c .in-Break-single .ensures tt))
 
-pub returns-in-Continue-short : need.returns-in-Continue-short
-returns-in-Continue-short t c =
+pub returns-in-Continue-single : need.returns-in-Continue-single
+returns-in-Continue-single t c =
     let k = c .in-Continue-more .ensures tt in
     all-terms (c .args .most) (c .args .self .now) (c .sign .last .self) (c .in-Continue-sign .field-0) (c .in-Continue-sign .ensures tt) (c .in-Comma .is) (c .in-Continue-more .more) (omega (arith, c .in-Continue-more .ensures tt))
-    (c .name .last .self) (c .in-Continue-term .term) (c .in-Continue-term .ensures tt) (c .terms .last .self) (c .in-Continue-short .short) (c .in-Continue-short .ensures tt)
+    (c .name .last .self) (c .in-Continue-term .term) (c .in-Continue-term .ensures tt) (c .terms .last .self) (c .in-Continue-single .single) (c .in-Continue-single .ensures tt)

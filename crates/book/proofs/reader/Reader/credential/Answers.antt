@@ -31,23 +31,23 @@ returns-in-Break-term c =
     (c .name-2 .last .self) (c .in-Continue-name .name) (took _ _ _ _ _ _ (c .in-Continue-name .ensures tt)) (c .expect-2 .last .self) (took _ _ _ _ _ _ (c .in-Continue-expect-2 .ensures tt))
     (c .name-3 .last .self) (c .in-Break-term .ensures tt))
 
-pub returns-in-Break-short : need.returns-in-Break-short
-returns-in-Break-short c =
-    rw (c .from-residual-in-Break-short .ensures)
+pub returns-in-Break-single : need.returns-in-Break-single
+returns-in-Break-single c =
+    rw (c .from-residual-in-Break-single .ensures)
     (no-rest-terms (c .args .self .now) (c .name .last .self) (c .in-Continue-issuer .issuer) (took _ _ _ _ _ _ (c .in-Continue-issuer .ensures tt)) (c .expect .last .self) (took _ _ _ _ _ _ (c .in-Continue-expect .ensures tt))
     (c .name-2 .last .self) (c .in-Continue-name .name) (took _ _ _ _ _ _ (c .in-Continue-name .ensures tt)) (c .expect-2 .last .self) (took _ _ _ _ _ _ (c .in-Continue-expect-2 .ensures tt))
-    (c .name-3 .last .self) (c .in-Continue-term .term) (took _ _ _ _ _ _ (c .in-Continue-term .ensures tt)) (c .terms .last .self) (c .in-Break-short .ensures tt))
+    (c .name-3 .last .self) (c .in-Continue-term .term) (took _ _ _ _ _ _ (c .in-Continue-term .ensures tt)) (c .terms .last .self) (c .in-Break-single .ensures tt))
 
 pub sub-part : need.sub-part
 sub-part c =
     let p =
     credential-place (c .args .self .now) (c .name .last .self) (c .in-Continue-issuer .issuer) (took _ _ _ _ _ _ (c .in-Continue-issuer .ensures tt)) (c .expect .last .self) (took _ _ _ _ _ _ (c .in-Continue-expect .ensures tt))
     (c .name-2 .last .self) (c .in-Continue-name .name) (took _ _ _ _ _ _ (c .in-Continue-name .ensures tt)) (c .expect-2 .last .self) (took _ _ _ _ _ _ (c .in-Continue-expect-2 .ensures tt))
-    (c .name-3 .last .self) (c .in-Continue-term .term) (took _ _ _ _ _ _ (c .in-Continue-term .ensures tt)) (c .terms .last .self) (c .in-Continue-short .short) (took _ _ _ _ _ _ (c .in-Continue-short .ensures tt)) in
+    (c .name-3 .last .self) (c .in-Continue-term .term) (took _ _ _ _ _ _ (c .in-Continue-term .ensures tt)) (c .terms .last .self) (c .in-Continue-single .single) (took _ _ _ _ _ _ (c .in-Continue-single .ensures tt)) in
     omega arith
 
 pub returns : need.returns
 returns c =
     credential-read (c .args .self .now) (c .name .last .self) (c .in-Continue-issuer .issuer) (took _ _ _ _ _ _ (c .in-Continue-issuer .ensures tt)) (c .expect .last .self) (took _ _ _ _ _ _ (c .in-Continue-expect .ensures tt))
     (c .name-2 .last .self) (c .in-Continue-name .name) (took _ _ _ _ _ _ (c .in-Continue-name .ensures tt)) (c .expect-2 .last .self) (took _ _ _ _ _ _ (c .in-Continue-expect-2 .ensures tt))
-    (c .name-3 .last .self) (c .in-Continue-term .term) (took _ _ _ _ _ _ (c .in-Continue-term .ensures tt)) (c .terms .last .self) (c .in-Continue-short .short) (took _ _ _ _ _ _ (c .in-Continue-short .ensures tt))
+    (c .name-3 .last .self) (c .in-Continue-term .term) (took _ _ _ _ _ _ (c .in-Continue-term .ensures tt)) (c .terms .last .self) (c .in-Continue-single .single) (took _ _ _ _ _ _ (c .in-Continue-single .ensures tt))
