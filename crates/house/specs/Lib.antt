@@ -1,0 +1,4 @@
+pub mod House
+pub mod Law
+pub mod Soundness
+pub mod View

@@ -1,0 +1,24 @@
+use book::Part;
+use table::Table;
+
+/// The most items in the body of a rule.
+pub const MOST_BODY: usize = 8;
+
+/// One ground disclosure: its source party discloses a credential to its destination party.
+#[derive(Clone, Copy)]
+pub struct Item {
+    pub source: u8,
+    pub destination: u8,
+    /// The number of the first registered item with the same credential.
+    pub credential: u8,
+    /// Where the item is first written.
+    pub part: Part,
+}
+
+/// The head may be disclosed by its source, the owner, once the owner knows the whole body. A held item has no body.
+pub struct Rule {
+    pub head: u8,
+    pub body: Table<u8, MOST_BODY>,
+}
+
+impl Copy for Rule {}
