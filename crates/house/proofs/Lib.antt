@@ -1,2 +1,5 @@
+pub mod BookLaw
+pub mod Smallest
 pub mod Sound
 pub mod Views
+pub mod Worked

@@ -14,7 +14,7 @@ use Rattle.book.specs.declared.parts.Part.{Part}
 use Rattle.house.specs.declared.entries.Item.{Item}
 use Rattle.house.specs.View.{RuleView, View}
 use Rattle.house.specs.Soundness.{every, within, itemSound, bodySound, ruleSound, askedSound, sound, noItem}
-use Rattle.house.specs.Law.{Within, GoodEntry, Known, GoodRule, Sound}
+use Rattle.house.specs.Law.{Within, GoodEntry, Concerns, GoodRule, Sound}
 
 both : (a b : Bool) → (a && b) ≡ true → (a ≡ true) × (b ≡ true)
 both true b h = (refl, h)
@@ -46,8 +46,8 @@ module _ (v : View) where
       let d = both _ _ (c .1) in
       record { source = below _ _ (a .0); destination = below _ _ (b .0); credential = below _ _ (c .0); part = part-within (i .part) (d .0); room = grind arith }
 
-  known : (owner b : ℕ) → bodySound (v .items) owner b ≡ true → Known v owner b
-  known owner b h =
+  concerns : (owner b : ℕ) → bodySound (v .items) owner b ≡ true → Concerns v owner b
+  concerns owner b h =
       let s = both _ _ h in
       record { registered = below _ _ (s .0); party = ends (either _ _ (s .1)) }
     where
@@ -60,7 +60,7 @@ module _ (v : View) where
   good-rule r h =
       let s = both _ _ h in
       let owner = getD (v .items) (r .head) noItem .source in
-      record { head = below _ _ (s .0); body = all-of (bodySound (v .items) owner) (known owner) (r .body) (s .1) }
+      record { head = below _ _ (s .0); body = all-of (bodySound (v .items) owner) (concerns owner) (r .body) (s .1) }
 
   asked-within : (asked : Option ℕ) → askedSound (length (v .items)) asked ≡ true → (d : ℕ) → asked ≡ Some d → d < length (v .items)
   asked-within None h d e = grind arith

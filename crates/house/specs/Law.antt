@@ -1,4 +1,4 @@
--- What is true of every house.
+-- What is true of every house: numbers in range, parts within the text, owners concerned by the items of their bodies.
 use mathlib.Core.Path.{_≡_}
 use mathlib.Core.Logic.{_⊎_}
 use Prim.Native.Nat.{ℕ, _+_, _<_, _≤_}
@@ -26,13 +26,13 @@ pub record GoodEntry (v : View) (i : Item) : Type 0 where
   pub room : nameLength v (i .source) + nameLength v (i .destination) + 2 ≤ i .part .length
 
 -- a registered item of which the owner is the source or the destination
-pub record Known (v : View) (owner b : ℕ) : Type 0 where
+pub record Concerns (v : View) (owner b : ℕ) : Type 0 where
   pub registered : b < length (v .items)
   pub party : (getD (v .items) b noItem .source ≡ owner) ⊎ (getD (v .items) b noItem .destination ≡ owner)
 
 pub record GoodRule (v : View) (r : RuleView) : Type 0 where
   pub head : r .head < length (v .items)
-  pub body : All (Known v (getD (v .items) (r .head) noItem .source)) (r .body)
+  pub body : All (Concerns v (getD (v .items) (r .head) noItem .source)) (r .body)
 
 pub record Sound (v : View) : Type 0 where
   pub parties : All (Within v) (v .parties)

@@ -1,4 +1,4 @@
--- No number out of range, no entry that names a party that is not enrolled, no body item strange to the rule's owner.
+-- The test that the type of a house carries; the law of every house says in relations what follows from it.
 use mathlib.Core.Bool.{Bool, true, false, _&&_, _||_}
 use mathlib.Core.List.{List, [], _∷_}
 use Prim.Native.Nat.{ℕ, _+_}
@@ -24,10 +24,11 @@ noItem = record { source = 0; destination = 0; credential = 0; part = nowhere }
 abbrev pub within : ℕ → Part → Bool
 within size p = leb (p .place + p .length) size
 
--- source and destination are enrolled, the credential is that of a registered item, and the writing is longer than the two names
+-- source and destination are enrolled, the credential is that of a registered item, and the writing has room for
+-- the two names and two signs
 abbrev pub itemSound : List Part → ℕ → ℕ → Item → Bool
-itemSound parties items size i =
-    ltb (i .source) (length parties) && (ltb (i .destination) (length parties) && (ltb (i .credential) items && (within size (i .part) &&
+itemSound parties count size i =
+    ltb (i .source) (length parties) && (ltb (i .destination) (length parties) && (ltb (i .credential) count && (within size (i .part) &&
     leb (getD parties (i .source) nowhere .length + getD parties (i .destination) nowhere .length + 2) (i .part .length))))
 
 -- a registered item of which the owner is the source or the destination
@@ -39,8 +40,8 @@ abbrev pub ruleSound : List Item → RuleView → Bool
 ruleSound items r = ltb (r .head) (length items) && every (bodySound items (getD items (r .head) noItem .source)) (r .body)
 
 abbrev pub askedSound : ℕ → Option ℕ → Bool
-askedSound items None = true
-askedSound items (Some d) = ltb d items
+askedSound count None = true
+askedSound count (Some d) = ltb d count
 
 abbrev pub sound : List Part → List Item → List RuleView → Option ℕ → ℕ → Bool
 sound parties items rules asked size =

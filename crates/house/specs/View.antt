@@ -22,7 +22,8 @@ abbrev pub ruleViews : List Rule → List RuleView
 ruleViews [] = []
 ruleViews (r ∷ rs) = let vs = ruleViews rs in ruleView r ∷ vs
 
--- the enrolled parties and the registered items by their places in the text, the rules, the asked item, the text's length
+-- the parties in the order of enrolment, by the places of their names; the items in the order of first writing; the rules in
+-- the order of their lines; the asked item; the length of the text
 pub record View : Type 0 where
   pub parties : List Part
   pub items : List Item
@@ -33,7 +34,7 @@ pub record View : Type 0 where
 abbrev pub emptyView : View
 emptyView = record { parties = []; items = []; rules = []; asked = None; size = 0 }
 
--- the rule that stands at a place, or none past the end
+-- the rule with a number, or none past the end
 abbrev pub RuleRead : List RuleView → ℕ → Option Rule → Type 0
-RuleRead rules place (Some r) = (place < length rules) × (ruleView r ≡ getD rules place (ruleView r))
-RuleRead rules place None = length rules ≤ place
+RuleRead rules number (Some r) = (number < length rules) × (ruleView r ≡ getD rules number (ruleView r))
+RuleRead rules number None = length rules ≤ number

@@ -1,7 +1,7 @@
 use book::Part;
 use table::Table;
 
-/// The most items in the body of a rule.
+/// The most items in the body of a rule. As many may be written there, repeats included.
 pub const MOST_BODY: usize = 8;
 
 /// One ground disclosure: its source party discloses a credential to its destination party.
@@ -15,7 +15,8 @@ pub struct Item {
     pub part: Part,
 }
 
-/// The head may be disclosed by its source, the owner, once the owner knows the whole body. A held item has no body.
+/// The head may be disclosed by its source, the owner, once the whole body is unlocked at the owner. A `hold` line is a
+/// rule with an empty body.
 pub struct Rule {
     pub head: u8,
     pub body: Table<u8, MOST_BODY>,

@@ -17,7 +17,7 @@ pub const MOST_ITEMS: usize = 256;
 
 pub const MOST_RULES: usize = 512;
 
-/// The policies of all parties: who is enrolled, which items are registered, which rules there are and what is asked for.
+/// The rules of all parties: who is enrolled, which items are registered, which rules there are and what is asked for.
 pub struct House {
     parties: Table<Part, MOST_PARTIES>,
     items: Table<Item, MOST_ITEMS>,

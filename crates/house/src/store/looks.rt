@@ -1,6 +1,6 @@
 ghost use mathlib.Core.Path.{_≡_};
 ghost use lib.ListN.{length};
-ghost use Rattle.table.specs.Held.{Read, held};
+ghost use Rattle.table.specs.Held.{Read};
 ghost use Rattle.house.specs.View.{RuleRead, emptyView};
 ghost use Rattle.house.specs.House.{view};
 ghost use Rattle.house.specs.Law.{Sound};
@@ -45,7 +45,7 @@ impl House {
         self.parties.len()
     }
 
-    /// Where the name of a party is written.
+    /// Where the name of a party is written; none from the number of parties on.
     pub fn party(&self, number: usize) -> Option<Part>
         ensures { λ r. ⌜ Read (view (now (self .entry)) .parties) number r ⌝ }
     {
@@ -59,28 +59,28 @@ impl House {
         self.items.len()
     }
 
-    /// The item with a number.
+    /// The item with a number; none from the number of items on.
     pub fn item(&self, number: usize) -> Option<Item>
         ensures { λ r. ⌜ Read (view (now (self .entry)) .items) number r ⌝ }
     {
         self.items.get(number)
     }
 
-    /// How many rules there are, held items among them.
+    /// How many rules there are, `hold` lines among them.
     pub fn rules(&self) -> usize
         ensures { λ r. ⌜ r ≡ length (view (now (self .entry)) .rules) ⌝ }
     {
         self.rules.len()
     }
 
-    /// The rule with a number, in the order of the lines.
+    /// The rule with a number, in the order of the lines; none from the number of rules on. A rule is known by its view.
     pub fn rule(&self, number: usize) -> Option<Rule>
         ensures { λ r. ⌜ RuleRead (view (now (self .entry)) .rules) number r ⌝ }
     {
         self.rules.get(number)
     }
 
-    /// The item that is asked for.
+    /// The item that is asked for; none without an `ask` line.
     pub fn asked(&self) -> Option<u8>
         ensures { λ r. ⌜ r ≡ view (now (self .entry)) .asked ⌝ }
     {
@@ -93,8 +93,8 @@ impl House {
     {
         self.text_length
     }
-    /// A theorem: no number in a house is out of range, no entry names a party that is not enrolled and no body item is
-    /// strange to the rule's owner.
+    /// A theorem: each number in a house is that of an enrolled party or a registered item, each part lies within the text,
+    /// and no body item is strange to the rule's owner.
     pub fn soundness_law(&self)
         ensures { λ _. ⌜ Sound (view (now (self .entry))) ⌝ }
     {}
