@@ -1,27 +1,27 @@
 -- Reading a book answers what its lines say.
-use mathlib.Core.Bool.{Bool, true, false, cond}
+use mathlib.Core.Bool.{true, false, cond}
 use mathlib.Core.Path.{_≡_, refl, ap, sym, subst, _∙_}
-use mathlib.Core.Logic.{_↔_, _≢_, _⊎_, inl, inr}
+use mathlib.Core.Logic.{_≢_, inl, inr}
 use mathlib.Core.List.{List, [], _∷_, _++_, append-assoc, append-nil}
 use Prim.Native.Nat.{ℕ, zero, suc, _+_, _<_, _≤_}
 use lib.Dec.{ltb}
 use lib.ListN.{length, length-append}
 use native.Mathlib.Omega.{arith}
-use Rattle.std.specs.shelf.Lists.{All}
 use Rattle.std.specs.declared.option.Option.{Option}
 use Rattle.std.specs.declared.option.Option.the-variants.{Some, None}
 use Rattle.std.specs.declared.result.Result.{Result}
 use Rattle.std.specs.declared.result.Result.the-variants.{Ok, Err}
 use Rattle.book.specs.declared.fault.Fault.{Fault}
-use Rattle.book.specs.declared.fault.Fault.the-variants.{TooLong, NoForm}
+use Rattle.book.specs.declared.fault.Fault.the-variants.{TooLong}
 use Rattle.book.specs.Grammar.{LineText, lineBytes, GoodLine}
 use Rattle.book.specs.Reading.{Parsed, lineIn}
 use Rattle.book.specs.Lines.{lineSize}
 use Rattle.book.proofs.Lines.{inverse-law}
 use Rattle.house.specs.Policies.{Policies, nothing, with, faultOf}
 use Rattle.house.specs.Books.{FaultAt, unless, lineThen, linesFrom, bookRead}
+use Rattle.house.proofs.Stand.{lines-stand}
 use Rattle.house.proofs.Smallest.{smallest-fault}
-use Rattle.house.specs.BookLaw.{linesBytes, Says, Front, NoLine, LineWith, Faulty, Told, BookLaw}
+use Rattle.house.specs.BookLaw.{linesBytes, Front, NoLine, Faulty, Told, Stand, BookLaw}
 
 some-none : {A : Type 0} (x : A) → ¬ (Some x ≡ None)
 some-none x e = grind arith
@@ -135,6 +135,12 @@ answered text (Err e) t =
     let p = pass (t .0) (length text) text 0 1 nothing (t .1) (t .2) (omega arith) (t .3) in
     p .3 ∙ at-fault (p .0) (t .2) (p .1) (1 + length (t .0)) (t .1) (e .fault) (p .2) (t .4) ∙ ap (λ n. Err (record { fault = e .fault; line = n })) (sym (t .5))
 
+stand : (text : List ℕ) (v : Policies) → Told text nothing 0 1 (Ok v) → Stand text v
+stand text v t = lines-stand text [] (t .0) 0 nothing v (t .1 .writing ∙ append-nil (linesBytes (t .0))) refl (t .1 .says) (record { parties = tt; items = tt })
+
+read-short : (text : List ℕ) (v : Policies) → bookRead text ≡ Ok v → ltb 32768 (length text) ≡ false
+read-short text v e = grind arith
+
 pub book-law : BookLaw
 book-law =
     record {
@@ -144,4 +150,8 @@ book-law =
           let b : ltb 32768 (length text) ≡ false = grind arith in
           let s : bookRead text ≡ linesFrom (length text) text 0 1 nothing = ap (λ c. cond c (Err (record { fault = TooLong; line = 0 })) (linesFrom (length text) text 0 1 nothing)) b in
           ((λ e. subst (Told text nothing 0 1) (sym s ∙ e) (outcome (length text) text 0 1 nothing (omega arith))), (λ t. s ∙ answered text r t));
+      places = λ text v e.
+          let b = read-short text v e in
+          let s : bookRead text ≡ linesFrom (length text) text 0 1 nothing = ap (λ c. cond c (Err (record { fault = TooLong; line = 0 })) (linesFrom (length text) text 0 1 nothing)) b in
+          stand text v (subst (Told text nothing 0 1) (sym s ∙ e) (outcome (length text) text 0 1 nothing (omega arith)));
     }

@@ -1,5 +1,6 @@
 pub mod BookLaw
 pub mod Smallest
 pub mod Sound
+pub mod Stand
 pub mod Views
 pub mod Worked

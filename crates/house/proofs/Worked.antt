@@ -1,5 +1,5 @@
 -- The worked books, computed.
-use mathlib.Core.Path.{_≡_, refl}
+use mathlib.Core.Path.{refl}
 use Rattle.book.specs.Reading.{nameIn, wordIn, termsIn, credentialIn, itemIn, moreIn, partyIn, holdIn, ruleIn, askIn, lineIn}
 use Rattle.house.specs.Worked.{Worked}
 

@@ -13,10 +13,11 @@ use Rattle.std.specs.declared.result.Result.the-variants.{Ok, Err}
 use Rattle.book.specs.declared.fault.Fault.{Fault}
 use Rattle.book.specs.declared.fault.Fault.the-variants.{TooLong, NoForm}
 use Rattle.book.specs.Faults.{faultNumber}
-use Rattle.book.specs.Grammar.{LineText, lineBytes, GoodLine}
+use Rattle.book.specs.Grammar.{itemBytes, LineText, lineBytes, GoodLine}
+use Rattle.book.specs.Laws.{cutOut}
 use Rattle.book.specs.Lines.{lineSize}
 use Rattle.house.specs.Policies.{Policies, nothing, with, has, faultOf}
-use Rattle.house.specs.Books.{FaultAt, bookRead}
+use Rattle.house.specs.Books.{FaultAt, bookRead, partyPart, itemPart}
 
 -- of the faults that pass the test, the one with the smallest number
 abbrev pub Smallest : (Fault → Bool) → Option Fault → Type 0
@@ -56,7 +57,13 @@ Told bytes before place line (Ok after) = (ls : List LineText) × Front bytes be
 Told bytes before place line (Err e) =
     (ls : List LineText) × (after : Policies) × (rest : List ℕ) × Front bytes before place ls after rest × Faulty after rest (e .fault) × (e .line ≡ line + length ls)
 
+-- the register's items and the parties' names stand in the text at their places
+pub record Stand (text : List ℕ) (v : Policies) : Type 0 where
+  pub parties : All (λ e. cutOut text (partyPart e) ≡ e .name) (v .parties)
+  pub items : All (λ w. cutOut text (itemPart w) ≡ itemBytes (w .item)) (v .items)
+
 pub record BookLaw : Type 0 where
   pub smallest : (v : Policies) (l : LineText) → Smallest (has v l) (faultOf v l)
   pub long : (text : List ℕ) → 32768 < length text → bookRead text ≡ Err (record { fault = TooLong; line = 0 })
   pub short : (text : List ℕ) (answer : Result Policies FaultAt) → length text ≤ 32768 → (bookRead text ≡ answer) ↔ Told text nothing 0 1 answer
+  pub places : (text : List ℕ) (v : Policies) → bookRead text ≡ Ok v → Stand text v

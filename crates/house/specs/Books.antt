@@ -1,5 +1,5 @@
 -- Reading a whole book: its lines one after the other, each judged after those before it, and the view of its house.
-use mathlib.Core.Bool.{Bool, true, false, cond}
+use mathlib.Core.Bool.{cond}
 use mathlib.Core.List.{List, [], _∷_}
 use Prim.Native.Nat.{ℕ, zero, suc, _+_}
 use lib.Dec.{ltb}
@@ -47,6 +47,9 @@ bookRead text = cond (ltb 32768 (length text)) (Err (record { fault = TooLong; l
 abbrev pub partyPart : Enrolled → Part
 partyPart e = record { place = e .place; length = length (e .name) }
 
+abbrev pub itemPart : Written → Part
+itemPart w = record { place = w .place; length = itemSize (w .item) }
+
 -- the entry of an item: its parties by their numbers, the first item with the same credential, its first writing
 abbrev pub entry : Policies → Written → Item
 entry v w =
@@ -54,7 +57,7 @@ entry v w =
       source = firstOf (named (w .item .source)) (v .parties);
       destination = firstOf (named (w .item .destination)) (v .parties);
       credential = firstOf (λ u. sameCredential (u .item .credential) (w .item .credential)) (v .items);
-      part = record { place = w .place; length = itemSize (w .item) };
+      part = itemPart w;
     }
 
 abbrev pub each : {X Y : Type 0} → (X → Y) → List X → List Y
