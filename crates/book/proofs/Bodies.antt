@@ -7,7 +7,6 @@ use lib.Chars.{codes}
 use lib.ListN.{length, drop, length-append}
 use Rattle.std.specs.shelf.Lists.{All}
 use Rattle.std.proofs.shelf.Elements.{all-push}
-use Rattle.std.specs.declared.option.Option.{Option}
 use Rattle.std.specs.declared.option.Option.the-variants.{Some, None}
 use Rattle.book.specs.declared.parts.ItemParts.{ItemParts}
 use Rattle.book.specs.declared.reader.Reader.{Reader}

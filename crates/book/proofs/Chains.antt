@@ -1,19 +1,17 @@
 -- A credential and an item, step by step.
-use mathlib.Core.Path.{_≡_, refl, sym, ap, subst, _∙_}
+use mathlib.Core.Path.{_≡_, refl, sym, ap, _∙_}
 use mathlib.Core.Bool.{Bool, _||_}
-use mathlib.Core.List.{List, [], _∷_, _++_}
-use Prim.Native.Nat.{ℕ, _+_, _-_, _≤_}
+use mathlib.Core.List.{List, _∷_, _++_}
+use Prim.Native.Nat.{ℕ, _+_, _-_}
 use native.Mathlib.Omega.{arith}
 use lib.Dec.{eqb}
 use lib.Chars.{codes}
 use lib.ListN.{length, length-append}
-use Rattle.std.specs.declared.option.Option.{Option}
 use Rattle.std.specs.declared.option.Option.the-variants.{Some, None}
 use Rattle.book.specs.declared.parts.Part.{Part}
-use Rattle.book.specs.declared.parts.ItemParts.{ItemParts}
 use Rattle.book.specs.declared.reader.Reader.{Reader}
-use Rattle.book.specs.Grammar.{Name, moreTerms, Credential, credentialBytes, ItemText, itemBytes}
-use Rattle.book.specs.Reading.{Parsed, then, nameIn, wordIn, termsIn, credentialIn, itemIn}
+use Rattle.book.specs.Grammar.{moreTerms, Credential, credentialBytes, ItemText}
+use Rattle.book.specs.Reading.{nameIn, wordIn, termsIn, credentialIn, itemIn}
 use Rattle.book.specs.Places.{left, Reads, namePart, anyOneLetter, credentialPart, credentialSize, itemParts, itemSize}
 use Rattle.book.specs.Signs.{termsSize}
 use Rattle.book.proofs.Steps.{reads-at, reads-none, Took, took-none, step, stop}

@@ -1,11 +1,10 @@
 -- The four forms of a line, step by step.
 use mathlib.Core.Path.{_≡_, refl, sym, ap, subst, _∙_}
-use mathlib.Core.List.{List, [], _∷_, _++_}
-use Prim.Native.Nat.{ℕ, _+_, _≤_, _<_, _^_}
+use mathlib.Core.List.{List, _++_}
+use Prim.Native.Nat.{ℕ, _+_, _≤_}
 use native.Mathlib.Omega.{arith}
 use lib.Chars.{codes}
 use lib.ListN.{length, drop, length-append}
-use Rattle.std.specs.declared.option.Option.{Option}
 use Rattle.std.specs.declared.option.Option.the-variants.{Some, None}
 use Rattle.std.specs.declared.result.Result.{Result}
 use Rattle.std.specs.declared.result.Result.the-variants.{Ok, Err}
@@ -16,11 +15,11 @@ use Rattle.book.specs.declared.parts.ItemParts.{ItemParts}
 use Rattle.book.specs.declared.parts.Line.{Line}
 use Rattle.book.specs.declared.parts.Line.the-variants.{Party, Hold, Rule, Ask}
 use Rattle.book.specs.declared.reader.Reader.{Reader}
-use Rattle.book.specs.Grammar.{ItemText, itemBytes, moreItems, LineText, lineBytes}
+use Rattle.book.specs.Grammar.{ItemText, itemBytes, moreItems, LineText}
 use Rattle.book.specs.Reading.{Parsed, then, nameIn, wordIn, itemIn, moreIn, partyIn, holdIn, ruleIn, askIn, behind, lineIn}
 use Rattle.book.specs.Places.{left, Reads, namePart, itemParts, itemSize}
 use Rattle.book.specs.Lines.{LineAnswer, ItemLineAnswer, formParts, formSize, keywordSize, lineParts, lineSize, itemLineIn, itemLineSize, moreSize}
-use Rattle.book.proofs.Names.{then-some, then-at, some-parts}
+use Rattle.book.proofs.Names.{then-some, some-parts}
 use Rattle.book.proofs.Lines.{items-long}
 use Rattle.book.proofs.Steps.{Took, took, took-none, step, stop}
 

@@ -8,9 +8,8 @@ use lib.Dec.{eqb}
 use lib.Chars.{codes}
 use lib.ListN.{length}
 use Rattle.std.specs.shelf.Lists.{All}
-use Rattle.std.specs.declared.option.Option.{Option}
 use Rattle.std.specs.declared.option.Option.the-variants.{Some, None}
-use Rattle.book.specs.Grammar.{nameByte, Name, GoodName, Credential, GoodCredential, ItemText, GoodItem, moreTerms, credentialBytes, itemBytes}
+use Rattle.book.specs.Grammar.{Name, GoodName, Credential, GoodCredential, ItemText, GoodItem, moreTerms, credentialBytes, itemBytes}
 use Rattle.book.specs.Reading.{Parsed, then, nameIn, wordIn, termsIn, credentialIn, itemIn}
 use Rattle.book.proofs.Names.{Stop, then-some, some-parts, name-at, name-of, word-at, word-of}
 

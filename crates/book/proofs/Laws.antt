@@ -10,11 +10,9 @@ use lib.Chars.{codes}
 use lib.ListN.{length, take, drop, length-append}
 use Rattle.std.specs.shelf.Lists.{All}
 use Rattle.std.proofs.shelf.Lists.{take-at, drop-at}
-use Rattle.std.specs.declared.option.Option.the-variants.{Some, None}
-use Rattle.book.specs.declared.parts.Part.{Part}
-use Rattle.book.specs.Grammar.{letter, nameByte, Name, GoodName, NameEnds, moreTerms, Credential, GoodCredential, credentialBytes, ItemText, GoodItem, itemBytes, moreItems, LineText, GoodLine, lineBytes}
+use Rattle.book.specs.Grammar.{letter, nameByte, Name, GoodName, moreTerms, Credential, GoodCredential, credentialBytes, ItemText, GoodItem, itemBytes, moreItems, LineText}
 use Rattle.book.specs.Reading.{itemIn}
-use Rattle.book.specs.Places.{namePart, itemParts, itemSize, credentialSize}
+use Rattle.book.specs.Places.{itemParts, itemSize, credentialSize}
 use Rattle.book.specs.Laws.{ItemLaw, cutOut, ItemCut, PlacesLaw, LineEndLaw}
 use Rattle.book.proofs.Items.{item-at, item-of}
 

@@ -6,11 +6,10 @@ use native.Mathlib.Omega.{arith}
 use lib.Chars.{codes}
 use lib.ListN.{length, length-append}
 use Rattle.std.specs.shelf.Lists.{All}
-use Rattle.std.specs.declared.option.Option.{Option}
 use Rattle.std.specs.declared.option.Option.the-variants.{Some, None}
-use Rattle.book.specs.Grammar.{Name, GoodName, ItemText, GoodItem, itemBytes, moreItems, LineText, GoodLine, lineBytes}
+use Rattle.book.specs.Grammar.{ItemText, GoodItem, itemBytes, moreItems, LineText, GoodLine, lineBytes}
 use Rattle.book.specs.Reading.{Parsed, then, nameIn, wordIn, itemIn, moreIn, partyIn, holdIn, ruleIn, askIn, behind, lineIn, InverseLaw}
-use Rattle.book.proofs.Names.{Stop, then-some, some-parts, name-at, name-of, word-at, word-of}
+use Rattle.book.proofs.Names.{Stop, then-some, some-parts, name-at, name-of, word-of}
 use Rattle.book.proofs.Items.{item-at, item-of}
 
 items-stop : (is : List ItemText) (rest : List ℕ) → Stop (moreItems is ++ 10 ∷ rest)

@@ -1,15 +1,15 @@
 -- The longest front of name bytes, found from left to right.
 use mathlib.Core.Path.{_≡_, refl, sym, ap, subst, _∙_}
 use mathlib.Core.Logic.{_⊎_, inl, inr}
-use mathlib.Core.Bool.{Bool, true, false, cond, _&&_}
-use mathlib.Core.List.{List, [], _∷_, _++_}
+use mathlib.Core.Bool.{true, false, cond, _&&_}
+use mathlib.Core.List.{List, [], _∷_}
 use Prim.Native.Nat.{ℕ, _+_, _≤_, _<_}
 use native.Mathlib.Omega.{arith}
 use lib.Dec.{T, leb}
 use lib.ListN.{length, getD, take, drop, length-append}
 use Rattle.std.specs.shelf.Lists.{All}
 use Rattle.std.proofs.shelf.Elements.{all-push}
-use Rattle.std.proofs.shelf.Lists.{append-nil, take-append-drop, take-all, take-more, drop-more, drop-all, length-take-le}
+use Rattle.std.proofs.shelf.Lists.{take-append-drop, take-all, take-more, drop-more, drop-all, length-take-le}
 use Rattle.book.specs.Grammar.{nameByte}
 use Rattle.std.specs.declared.option.Option.the-variants.{Some, None}
 use Rattle.book.specs.Reading.{run, nameStart, nameIn}

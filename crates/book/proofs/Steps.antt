@@ -5,9 +5,7 @@ use Prim.Native.Nat.{ℕ, _+_}
 use native.Mathlib.Omega.{arith}
 use lib.ListN.{length, drop}
 use Rattle.std.proofs.shelf.Lists.{drop-at, drop-drop}
-use Rattle.std.specs.declared.option.Option.{Option}
 use Rattle.std.specs.declared.option.Option.the-variants.{Some, None}
-use Rattle.book.specs.declared.parts.Part.{Part}
 use Rattle.book.specs.declared.reader.Reader.{Reader}
 use Rattle.book.specs.Grammar.{Name}
 use Rattle.book.specs.Reading.{Parsed, then, nameIn}

@@ -1,20 +1,19 @@
 -- The terms of a credential, step by step.
-use mathlib.Core.Path.{_≡_, refl, sym, ap, subst, _∙_}
-use mathlib.Core.Bool.{Bool, true, false, cond, _||_}
-use mathlib.Core.List.{List, [], _∷_, _++_}
+use mathlib.Core.Path.{_≡_, refl, sym, ap, _∙_}
+use mathlib.Core.Bool.{Bool, false, _||_}
+use mathlib.Core.List.{List, [], _∷_}
 use Prim.Native.Nat.{ℕ, zero, suc, _+_}
 use native.Mathlib.Omega.{arith}
 use lib.Dec.{eqb}
 use lib.ListN.{length, length-append}
-use Rattle.std.specs.declared.option.Option.{Option}
 use Rattle.std.specs.declared.option.Option.the-variants.{Some, None}
 use Rattle.book.specs.declared.parts.Part.{Part}
 use Rattle.book.specs.declared.reader.Reader.{Reader}
 use Rattle.book.specs.declared.reader.items.Sign.{Sign}
 use Rattle.book.specs.declared.reader.items.Sign.the-variants.{Caret, Dot, Open, Comma, Close, Arrow}
 use Rattle.book.specs.Grammar.{Name, moreTerms}
-use Rattle.book.specs.Reading.{Parsed, then, nameIn, termsIn}
-use Rattle.book.specs.Places.{left, Reads, namePart, oneLetter, anyOneLetter}
+use Rattle.book.specs.Reading.{then, nameIn, termsIn}
+use Rattle.book.specs.Places.{left, Reads, namePart, anyOneLetter}
 use Rattle.book.specs.Signs.{signIn, signCode, termsSize}
 use Rattle.book.proofs.Names.{then-at}
 use Rattle.book.proofs.Steps.{reads-at, reads-none, Took, took, took-none}

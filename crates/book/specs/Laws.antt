@@ -13,7 +13,6 @@ use Rattle.book.specs.declared.parts.ItemParts.{ItemParts}
 use Rattle.book.specs.Grammar.{Name, NameEnds, credentialBytes, ItemText, GoodItem, itemBytes, moreItems, LineText, GoodLine, lineBytes}
 use Rattle.book.specs.Reading.{itemIn}
 use Rattle.book.specs.Places.{namePart, itemParts}
-use Rattle.book.specs.Lines.{keywordSize}
 
 abbrev pub ItemLaw : Type 0
 ItemLaw = (bytes : List ℕ) (i : ItemText) (rest : List ℕ) → (itemIn bytes ≡ Some (i, rest)) ↔ ((bytes ≡ itemBytes i ++ rest) × GoodItem i × NameEnds rest)

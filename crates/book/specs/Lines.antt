@@ -15,7 +15,7 @@ use Rattle.book.specs.declared.parts.Line.{Line}
 use Rattle.book.specs.declared.parts.Line.the-variants.{Party, Hold, Rule, Ask}
 use Rattle.book.specs.declared.reader.Reader.{Reader}
 use Rattle.book.specs.Grammar.{NameEnds, ItemText, GoodItem, itemBytes, LineText, GoodLine, lineBytes, moreItems}
-use Rattle.book.specs.Reading.{Parsed, then, wordIn, itemIn, lineIn}
+use Rattle.book.specs.Reading.{Parsed, then, wordIn, itemIn}
 use Rattle.book.specs.Places.{left, namePart, itemParts, itemSize}
 
 -- a line by the places of its names and items, where its keyword ends at a place

@@ -1,5 +1,4 @@
 -- For the inner contracts of the reader: the signs ^ . ( , ) > that part an item.
-use mathlib.Core.Path.{_≡_}
 use mathlib.Core.Bool.{cond}
 use mathlib.Core.List.{List, [], _∷_}
 use Prim.Native.Nat.{ℕ, _+_}

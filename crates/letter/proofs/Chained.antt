@@ -1,9 +1,9 @@
 -- What reading a letter answers, by what reading its two numbers answers.
 use mathlib.Core.Path.{_≡_, refl, sym, ap, subst, _∙_}
-use mathlib.Core.Logic.{_↔_, _⊎_, inl, inr, ⊎-elim}
-use mathlib.Core.Bool.{false, cond}
-use mathlib.Core.List.{List, [], _∷_, _++_, append-assoc}
-use Prim.Native.Nat.{ℕ, _+_, _-_, _^_, _<_, _≤_}
+use mathlib.Core.Logic.{_⊎_, inl, inr, ⊎-elim}
+use mathlib.Core.Bool.{false}
+use mathlib.Core.List.{List, _++_, append-assoc}
+use Prim.Native.Nat.{ℕ, _+_, _^_, _<_}
 use native.Mathlib.Omega.{arith}
 use lib.Dec.{ltb}
 use lib.ListN.{length, drop, length-append}
@@ -17,11 +17,9 @@ use Rattle.letter.specs.declared.letter.Kind.the-variants.{Request, Disclosure
 use Rattle.letter.specs.declared.letter.Letter.{Letter}
 use Rattle.letter.specs.declared.refusal.Refusal.{Refusal}
 use Rattle.letter.specs.declared.refusal.Refusal.the-variants.{CutShort, Malformed, NoSuchKind, ItemTooLarge, BufferTooShort}
-use Rattle.letter.specs.Refusals.{refusalNumber, Refuses}
 use Rattle.letter.specs.Letters.{kindNumber, kindOf}
-use Rattle.letter.specs.Numbers.{leb, NumberThen, Cut, NumberAnswer, NumberRead}
+use Rattle.letter.specs.Numbers.{leb, NumberThen, Cut, NumberRead}
 use Rattle.letter.specs.Bytes.{letterBytes, LetterThen, CutItem, OtherKind, LargeItem, LetterAnswer, LetterRead, WrittenBack, writeAnswer, writeBytes}
-use Rattle.letter.proofs.Groups.{leb-shape}
 use Rattle.letter.proofs.Refused.{same-refusal, refused, refuses}
 use Rattle.letter.proofs.Reading.{ok-parts, reads-leb}
 

@@ -1,15 +1,12 @@
 -- Where a number ends among bytes, and which bytes are a number's.
 use mathlib.Core.Path.{_≡_, refl, sym, ap, _∙_}
-use mathlib.Core.Logic.{_↔_, _⊎_, inl, inr, ⊎-elim}
-use mathlib.Core.Bool.{Bool, true, false, cond}
-use mathlib.Core.List.{List, [], _∷_, _++_, append-assoc}
-use Prim.Native.Nat.{ℕ, zero, suc, _+_, _-_, _*_, _/_, _%_, _^_, _<_, _≤_}
+use mathlib.Core.Logic.{inl, inr}
+use mathlib.Core.List.{List, [], _∷_, _++_}
+use Prim.Native.Nat.{ℕ, zero, suc, _+_, _*_, _/_, _%_, _^_, _<_, _≤_}
 use native.Mathlib.Omega.{arith}
-use lib.Dec.{ltb}
-use lib.ListN.{length, length-append}
-use Rattle.std.specs.shelf.Lists.{All}
+use lib.ListN.{length}
 use Rattle.std.proofs.shelf.Tests.{cases-lt, lt-ltb, le-ltb}
-use Rattle.letter.specs.Numbers.{groups, leb, valueOf, TopBitSet, Whole, Encodes, EncodingLaw}
+use Rattle.letter.specs.Numbers.{groups, leb, valueOf, TopBitSet, Whole, EncodingLaw}
 
 -- enough groups are enough
 groups-enough : (k m n : ℕ) → n ≤ k → n ≤ m → groups k n ≡ groups m n

@@ -1,8 +1,8 @@
 -- What reading a number answers, by where the number ends.
 use mathlib.Core.Path.{_≡_, refl, sym, ap, subst, _∙_}
-use mathlib.Core.Logic.{_↔_, _⊎_, inl, inr, ⊎-elim}
+use mathlib.Core.Logic.{⊎-elim}
 use mathlib.Core.List.{List, [], _∷_, _++_, append-assoc}
-use Prim.Native.Nat.{ℕ, zero, suc, _+_, _-_, _*_, _/_, _%_, _^_, _<_, _≤_}
+use Prim.Native.Nat.{ℕ, _+_, _-_, _*_, _%_, _^_, _<_, _≤_}
 use native.Mathlib.Omega.{arith}
 use lib.ListN.{length, getD, take, drop, length-append}
 use Rattle.std.proofs.shelf.Lists.{append-nil, length-take-le, take-append-drop, take-all, take-more, drop-more, take-rest}
@@ -11,8 +11,8 @@ use Rattle.std.proofs.shelf.Tests.{cases-lt}
 use Rattle.std.specs.declared.result.Result.{Result}
 use Rattle.std.specs.declared.result.Result.the-variants.{Ok, Err}
 use Rattle.letter.specs.declared.refusal.Refusal.the-variants.{CutShort, Malformed}
-use Rattle.letter.specs.Numbers.{leb, valueOf, TopBitSet, Whole, NumberThen, Cut, NumberAnswer, NumberRead}
-use Rattle.letter.proofs.Groups.{Shape, leb-of, leb-shape, few-below, many-above, same-end, longer-front}
+use Rattle.letter.specs.Numbers.{leb, valueOf, TopBitSet, Whole, NumberThen, Cut, NumberRead}
+use Rattle.letter.proofs.Groups.{leb-of, leb-shape, few-below, many-above, same-end, longer-front}
 
 -- what the bytes of a number and what follows them agree with
 follows : (n : ℕ) (rest : List ℕ) → leb n ++ rest ≡ leb-shape n .front ++ leb-shape n .last ∷ rest

@@ -5,7 +5,6 @@ use mathlib.Core.List.{List}
 use Prim.Native.Nat.{ℕ}
 use native.Mathlib.Omega.{arith}
 use Rattle.std.specs.declared.result.Result.the-variants.{Ok, Err}
-use Rattle.letter.specs.declared.refusal.Refusal.{Refusal}
 use Rattle.letter.specs.declared.refusal.Refusal.the-variants.{CutShort, Malformed, NoSuchKind, ItemTooLarge, BufferTooShort}
 use Rattle.letter.specs.Numbers.{NumberAnswer, NumberRead}
 use Rattle.letter.specs.Bytes.{LetterAnswer, LetterRead}

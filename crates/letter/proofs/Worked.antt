@@ -3,11 +3,10 @@ use mathlib.Core.Path.{_≡_, refl, subst}
 use mathlib.Core.List.{List, [], _∷_, _++_}
 use Prim.Native.Nat.{ℕ, _^_, _<_, _≤_}
 use native.Mathlib.Omega.{arith}
-use Rattle.std.specs.declared.result.Result.the-variants.{Ok, Err}
+use Rattle.std.specs.declared.result.Result.the-variants.{Ok}
 use Rattle.letter.specs.declared.letter.Kind.the-variants.{Request}
 use Rattle.letter.specs.declared.letter.Letter.{Letter}
 use Rattle.letter.specs.declared.refusal.Refusal.the-variants.{CutShort, Malformed, NoSuchKind, ItemTooLarge}
-use Rattle.letter.specs.Letters.{kindNumber}
 use Rattle.letter.specs.Numbers.{leb, TopBitSet, NumberRead}
 use Rattle.letter.specs.Bytes.{letterBytes, LetterRead}
 use Rattle.letter.specs.Worked.{Worked}

@@ -1,25 +1,21 @@
 -- What writing a letter leaves in the buffer.
-use mathlib.Core.Path.{_≡_, refl, sym, ap, subst, _∙_}
+use mathlib.Core.Path.{_≡_, refl, sym, ap, _∙_}
 use mathlib.Core.Logic.{inl, inr}
-use mathlib.Core.Bool.{cond}
-use mathlib.Core.List.{List, [], _∷_, _++_, append-assoc}
-use Prim.Native.Nat.{ℕ, _+_, _-_, _<_, _≤_}
+use mathlib.Core.List.{List, _++_, append-assoc}
+use Prim.Native.Nat.{ℕ, _+_, _<_, _≤_}
 use native.Mathlib.Omega.{arith}
-use lib.Dec.{ltb}
 use lib.ListN.{length, take, drop, length-append}
-use Rattle.std.proofs.shelf.Lists.{take-at, drop-at}
+use Rattle.std.proofs.shelf.Lists.{take-at}
 use Rattle.std.proofs.shelf.Tests.{cases-lt, lt-ltb, le-ltb}
-use Rattle.std.specs.declared.result.Result.{Result}
 use Rattle.std.specs.declared.result.Result.the-variants.{Ok, Err}
 use Rattle.std.specs.declared.option.Option.{Option}
 use Rattle.std.specs.declared.option.Option.the-variants.{Some, None}
 use Rattle.letter.specs.declared.letter.Kind.{Kind}
 use Rattle.letter.specs.declared.letter.Letter.{Letter}
-use Rattle.letter.specs.declared.refusal.Refusal.{Refusal}
 use Rattle.letter.specs.declared.refusal.Refusal.the-variants.{NoSuchKind, ItemTooLarge, BufferTooShort}
 use Rattle.letter.specs.Letters.{kindNumber, kindOf, named, letterOf}
 use Rattle.letter.specs.Numbers.{leb}
-use Rattle.letter.specs.Bytes.{letterBytes, writeAnswer, writeBytes, Written, WriteRefusals}
+use Rattle.letter.specs.Bytes.{letterBytes, writeAnswer, Written, WriteRefusals}
 use Rattle.letter.proofs.Chained.{number-of-kind, reads-letter}
 
 pub both-sizes : (l : Letter) (behind end : ℕ) {k i : ℕ} → k ≡ kindNumber (l .kind) → i ≡ l .item → behind ≡ 0 + length (leb k) → end ≡ behind + length (leb i) → end ≡ length (letterBytes l)

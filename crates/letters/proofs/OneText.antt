@@ -1,21 +1,19 @@
 -- No capture has two texts.
 use mathlib.Core.Path.{_≡_, refl, sym, ap, subst, _∙_}
-use mathlib.Core.Logic.{_⊎_, inl, inr}
+use mathlib.Core.Logic.{inl, inr}
 use mathlib.Core.List.{List, [], _∷_, _++_, append-assoc}
 use Prim.Native.Nat.{ℕ, _+_, _<_}
 use native.Mathlib.Omega.{arith}
 use lib.ListN.{length, length-append}
 use Rattle.std.specs.Joined.{joined}
 use Rattle.std.specs.shelf.Lists.{All}
-use Rattle.std.specs.declared.result.Result.{Result}
 use Rattle.std.specs.declared.result.Result.the-variants.{Ok, Err}
 use Rattle.letter.specs.declared.letter.Letter.{Letter}
-use Rattle.letter.specs.declared.refusal.Refusal.{Refusal}
-use Rattle.letter.specs.Bytes.{letterBytes, LetterThen, LetterAnswer, LetterRead}
+use Rattle.letter.specs.Bytes.{letterBytes, LetterRead}
 use Rattle.letter.proofs.Chained.{no-ok, reads-letter}
 use Rattle.letter.proofs.Reading.{ok-parts}
 use Rattle.letter.proofs.Unique.{one-answer}
-use Rattle.letters.specs.Report.{letterLine, refusalLine, countLine, StopLine, Reported, OneText}
+use Rattle.letters.specs.Report.{letterLine, refusalLine, countLine, StopLine, OneText}
 use Rattle.letters.proofs.SoFar.{some-bytes}
 
 -- no letter stands where the letters stop

@@ -1,9 +1,7 @@
-use mathlib.Core.Path.{_≡_, _∙_, sym}
-use Prim.Native.Nat.{_<_, _≤_, _%_}
-use lib.ListN.{length, getD}
+use mathlib.Core.Path.{_∙_}
+use Prim.Native.Nat.{_≤_}
+use lib.ListN.{length}
 use native.Mathlib.Omega.{arith}
-use borrow.Author.Needs.{needs}
-use borrow.Author.Tests.{ltb-false}
 use Rattle.std.proofs.shelf.Bits.{and-mask}
 use Rattle.letter.proofs.Reading.{at-end, at-padding, fits, at-last, at-mark, at-third}
 use Rattle.letter.proofs.number.read_number.Needs as need

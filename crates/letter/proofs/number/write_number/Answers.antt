@@ -1,10 +1,9 @@
-use mathlib.Core.Path.{_≡_, refl, _∙_, ap}
-use Prim.Native.Nat.{_+_, _%_, _≤_, _<_}
+use mathlib.Core.Path.{_∙_, ap}
+use Prim.Native.Nat.{_%_}
 use lib.Bits.{bitOr}
 use lib.ListN.{length}
 use native.Mathlib.Omega.{arith}
-use Rattle.std.proofs.shelf.Bits.{and-mask, or-shifted, mod-below}
-use Rattle.letter.specs.Numbers.{leb}
+use Rattle.std.proofs.shelf.Bits.{and-mask, or-shifted}
 use Rattle.letter.proofs.Groups.{leb-last}
 use Rattle.letter.proofs.Places.{inside, step, last, leb-short}
 use Rattle.letter.proofs.number.write_number.Needs as need

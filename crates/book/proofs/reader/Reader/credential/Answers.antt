@@ -1,4 +1,3 @@
-use Prim.Native.Nat.{_≤_}
 use native.Mathlib.Omega.{arith}
 use Rattle.book.proofs.Steps.{took}
 use Rattle.book.proofs.Chains.{no-issuer, no-dot, no-name, no-open, no-first-term, no-rest-terms, credential-place, credential-read}

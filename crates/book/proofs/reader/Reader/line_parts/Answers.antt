@@ -1,11 +1,10 @@
 use mathlib.Core.Path.{refl}
-use Prim.Native.Nat.{ℕ}
 use lib.Chars.{codes}
 use Rattle.std.proofs.shelf.Results.{err-from-errBy}
 use Rattle.book.specs.Reading.{lineIn, partyIn, ruleIn}
 use Rattle.book.specs.Places.{left}
 use Rattle.book.specs.Lines.{lineParts, lineSize}
-use Rattle.book.proofs.Forms.{at-rest, Missed, Found, missed, found, by-form, party-keyword, rule-keyword, line-party, line-hold, line-rule, line-ask, line-nothing, hold-line, hold-misfit, ask-line, ask-misfit, line-none}
+use Rattle.book.proofs.Forms.{at-rest, missed, found, by-form, party-keyword, rule-keyword, line-party, line-hold, line-rule, line-ask, line-nothing, hold-line, hold-misfit, ask-line, ask-misfit, line-none}
 use Rattle.book.proofs.reader.Reader.line_parts.Needs as need
 
 pub returns-in-Some : need.returns-in-Some

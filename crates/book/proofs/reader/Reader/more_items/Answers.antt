@@ -1,10 +1,8 @@
 use mathlib.Core.Path.{refl}
-use Prim.Native.Nat.{_+_, _≤_}
+use Prim.Native.Nat.{_+_}
 use native.Mathlib.Omega.{arith}
-use lib.ListN.{length}
-use Rattle.book.specs.Places.{left}
 use Rattle.book.proofs.Steps.{took, took-none}
-use Rattle.book.proofs.Bodies.{BodySoFar, body-start, body-end, body-fails, body-shorter, body-next, body-few, item-shorter}
+use Rattle.book.proofs.Bodies.{body-start, body-end, body-fails, body-shorter, body-next, body-few, item-shorter}
 use Rattle.book.proofs.reader.Reader.more_items.Needs as need
 
 pub loop-self-holds : need.loop-self-holds

@@ -1,10 +1,8 @@
-use mathlib.Core.Path.{_≡_, refl, sym, ap, subst, _∙_}
-use Prim.Native.Nat.{_+_, _≤_}
+use mathlib.Core.Path.{refl, ap, _∙_}
 use native.Mathlib.Omega.{arith}
 use lib.ListN.{length, length-drop}
-use Rattle.std.specs.declared.option.Option.the-variants.{Some, None}
 use Rattle.book.specs.Reading.{nameIn}
-use Rattle.book.specs.Places.{left, nameSize, namePart, Reads}
+use Rattle.book.specs.Places.{left, nameSize, namePart}
 use Rattle.book.proofs.Runs.{name-within}
 use Rattle.book.proofs.Steps.{reads-none, name-moves, no-name-here}
 use Rattle.book.proofs.reader.Reader.name.Needs as need

@@ -1,7 +1,5 @@
-use mathlib.Core.Path.{_≡_, sym, ap, _∙_}
-use Prim.Native.Nat.{_≤_}
+use mathlib.Core.Path.{sym}
 use native.Mathlib.Omega.{arith}
-use lib.ListN.{length, getD}
 use Rattle.book.proofs.Runs.{run-until, run-all, run-more}
 use Rattle.book.proofs.reader.names.run_length.Needs as need
 

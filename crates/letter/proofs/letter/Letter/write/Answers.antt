@@ -1,9 +1,8 @@
-use mathlib.Core.Path.{_≡_, refl, sym, ap, _∙_}
+use mathlib.Core.Path.{_≡_, ap, _∙_}
 use mathlib.Core.List.{_++_}
-use Prim.Native.Nat.{_+_, _-_, _<_}
+use Prim.Native.Nat.{_+_, _-_}
 use native.Mathlib.Omega.{arith}
-use borrow.Author.Needs.{needs}
-use lib.ListN.{length, take, drop, length-append}
+use lib.ListN.{take, drop}
 use Rattle.letter.specs.Letters.{kindNumber}
 use Rattle.letter.specs.Numbers.{leb}
 use Rattle.letter.specs.Bytes.{letterBytes}

@@ -1,4 +1,4 @@
-use mathlib.Core.Path.{_≡_, refl, sym, _∙_}
+use mathlib.Core.Path.{_≡_, refl}
 use mathlib.Core.Bool.{false}
 use native.Mathlib.Omega.{arith}
 use Prim.Native.Nat.{_<_}
@@ -6,7 +6,7 @@ use lib.Dec.{eqb}
 use lib.ListN.{length}
 use Rattle.std.proofs.shelf.Lists.{take-more-set}
 use Rattle.table.specs.Held.{held}
-use Rattle.table.proofs.Slots.{length-held, not-full}
+use Rattle.table.proofs.Slots.{not-full}
 use Rattle.table.proofs.store.Table.push.Needs as need
 
 pub returns : need.returns
