@@ -1,4 +1,6 @@
 //! Books: the text that all parties' rules are written in, line by line.
+#![tactic(auto)]
+
 mod fault;
 mod parts;
 mod reader;

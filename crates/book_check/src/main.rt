@@ -1,5 +1,7 @@
 //! Reads a book from standard input and prints the house that it makes, or why it is refused. Where files are named as
 //! arguments, it does so for each, behind a line with the name; `-` is standard input.
+#![tactic(auto)]
+
 mod report;
 
 use house::MOST_BYTES;

@@ -1,4 +1,6 @@
 //! Examples of books that are read and of books that are refused, as tests.
+#![tactic(auto)]
+
 #[cfg(test)]
 mod faults;
 #[cfg(test)]

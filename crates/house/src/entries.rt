@@ -17,9 +17,8 @@ pub struct Item {
 
 /// The head may be disclosed by its source, the owner, once the whole body is unlocked at the owner. A `hold` line is a
 /// rule with an empty body.
+#[derive(Clone, Copy)]
 pub struct Rule {
     pub head: u8,
     pub body: Table<u8, MOST_BODY>,
 }
-
-impl Copy for Rule {}

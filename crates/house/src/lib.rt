@@ -1,4 +1,6 @@
 //! The house: the rules of all parties, as reading a book gives them.
+#![tactic(auto)]
+
 mod entries;
 mod reading;
 mod refusal;

@@ -1,8 +1,9 @@
-ghost use Rattle.std.specs.Prelude.{◌≡◌, true};
+ghost use Rattle.std.specs.Prelude.{◌≡◌, ⊤, true};
 ghost use Rattle.table.specs.Held.{held};
 ghost use Rattle.house.specs.View.{rule_views};
 ghost use Rattle.house.specs.Soundness.{sound};
 
+use std::alloc::AllocError;
 use crate::tables::Tables;
 
 mod filled;
@@ -15,6 +16,16 @@ pub struct House {
     tables: Tables,
     text_length: usize,
     ghost sound: { sound (held tables.parties) (held tables.items) (rule_views (held tables.rules)) tables.asked text_length ≡ true },
+}
+
+impl Clone for House {
+    ghost is_clone = { λ x y. y ≡ x };
+
+    ghost is_infallible = { λ _. ⊤ };
+
+    fn clone(&self) -> Result<House, AllocError> {
+        Ok(*self)
+    }
 }
 
 impl Copy for House {}

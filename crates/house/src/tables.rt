@@ -12,11 +12,10 @@ pub const MOST_ITEMS: usize = 256;
 pub const MOST_RULES: usize = 512;
 
 /// What the lines of a book fill, one after the other.
+#[derive(Clone, Copy)]
 pub(crate) struct Tables {
     pub(crate) parties: Table<Part, MOST_PARTIES>,
     pub(crate) items: Table<Item, MOST_ITEMS>,
     pub(crate) rules: Table<Rule, MOST_RULES>,
     pub(crate) asked: Option<u8>,
 }
-
-impl Copy for Tables {}

@@ -7,6 +7,7 @@ mod methods;
 pub const MOST_USES: usize = 4096;
 
 /// Chains through the rules and the items of a house.
+#[derive(Clone, Copy)]
 pub struct Index {
     /// Body items, rule after rule, and the number of the rule that each stands in.
     pub uses: Links<MOST_USES>,
@@ -16,5 +17,3 @@ pub struct Index {
     /// Items by their credentials.
     pub credentials: Links<256>,
 }
-
-impl Copy for Index {}

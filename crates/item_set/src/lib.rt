@@ -1,4 +1,6 @@
 //! A set of items, by their numbers below 256.
+#![tactic(auto)]
+
 mod set;
 #[cfg(test)]
 mod tests;

@@ -1,4 +1,6 @@
 //! The letters of a negotiation, and their bytes on the wire.
+#![tactic(auto)]
+
 mod bytes;
 mod display;
 mod letter;

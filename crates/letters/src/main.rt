@@ -1,4 +1,6 @@
 //! Prints the letters of a capture that is read from standard input.
+#![tactic(auto)]
+
 mod report;
 
 use std::io::Read;

@@ -1,4 +1,6 @@
 //! Entries in the order in which they were put in, with a chain through those that have one key, latest first.
+#![tactic(auto)]
+
 mod chains;
 #[cfg(test)]
 mod tests;

@@ -1,4 +1,6 @@
 //! What the rules of a house mean: unlocked, relevant, derivable, safe, reached. Theory only.
+#![tactic(auto)]
+
 ghost use Rattle.meaning.specs.Law.{MeaningLaw};
 ghost use Rattle.meaning.specs.Worked.{Worked};
 

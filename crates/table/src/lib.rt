@@ -1,4 +1,6 @@
 //! A table of fixed capacity, filled from the front.
+#![tactic(auto)]
+
 mod store;
 
 pub use store::{Full, Table};

@@ -1,4 +1,6 @@
-ghost use Rattle.std.specs.Prelude.{◌≡◌, ◌≤◌, length};
+ghost use Rattle.std.specs.Prelude.{◌≡◌, ⊤, ◌≤◌, length};
+
+use std::alloc::AllocError;
 
 mod methods;
 
@@ -8,6 +10,16 @@ pub struct Table<T, const N: usize> {
     len: usize,
     ghost fits: { len ≤ N },
     ghost whole: { length slots ≡ N },
+}
+
+impl<T: Copy, const N: usize> Clone for Table<T, N> {
+    ghost is_clone = { λ x y. y ≡ x };
+
+    ghost is_infallible = { λ _. ⊤ };
+
+    fn clone(&self) -> Result<Table<T, N>, AllocError> {
+        Ok(*self)
+    }
 }
 
 impl<T: Copy, const N: usize> Copy for Table<T, N> {}

@@ -1,4 +1,6 @@
 //! A waiting line, oldest first, over places that the caller lends.
+#![tactic(auto)]
+
 mod line;
 mod ring;
 #[cfg(test)]

@@ -10,8 +10,8 @@ bounds-out-place c =
     inside c.args.out.now c.args.at c.args.number c.loop-left.out c.loop-left.place c.loop-left.left c.loop-left.invariant
     (omega (arith, leb_short c.args.number (omega arith)))
 
-pub overflow-add-place : goal.overflow-add-place
-overflow-add-place c =
+pub overflow_add-place : goal.overflow_add-place
+overflow_add-place c =
     let h = inside c.args.out.now c.args.at c.args.number c.loop-left.out c.loop-left.place c.loop-left.left c.loop-left.invariant (omega (arith, leb_short c.args.number (omega arith))) in
     omega arith
 
@@ -26,8 +26,8 @@ bounds-out-place-2 c =
     inside c.args.out.now c.args.at c.args.number c.loop-left.out c.loop-left.place c.loop-left.left c.loop-left.invariant
     (omega (arith, leb_short c.args.number (omega arith)))
 
-pub overflow-add-result : goal.overflow-add-result
-overflow-add-result c =
+pub overflow_add-result : goal.overflow_add-result
+overflow_add-result c =
     let h = inside c.args.out.now c.args.at c.args.number c.loop-left.out c.loop-left.place c.loop-left.left c.loop-left.invariant (omega (arith, leb_short c.args.number (omega arith))) in
     omega arith
 

@@ -5,7 +5,7 @@ use Rattle.waiting.proofs.ring.put.Goals as goal
 pub returns-then-count-size : goal.returns-then-count-size
 returns-then-count-size g c =
     record {
-      answer = is_full c.args.places.now c.args.line.now c.start-in-start.result c.min-count.result c.start-in-start.ensures.is c.min-count.ensures _ c.if-count-size.true;
+      answer = is_full c.args.places.now c.args.line.now c.start_in-start.result c.min-count.result c.start_in-start.ensures.is c.min-count.ensures _ c.if-count-size.true;
       after = (refl, refl);
     }
 
@@ -15,8 +15,8 @@ returns g c =
     let left = c.if-count-size.false in
     let e = c.min-count.ensures in
     let few : c.min-count.result < length ps = omega arith in
-    let s = c.start-in-start.ensures.below (omega arith) in
+    let s = c.start_in-start.ensures.below (omega arith) in
     record {
-      answer = not_full ps c.args.line.now c.start-in-start.result c.min-count.result c.start-in-start.ensures.is e left;
-      after = (put_behind ps c.args.line.now c.start-in-start.result c.min-count.result c.start-in-start.ensures.is e c.behind-place.result c.args.x s few c.behind-place.ensures, (c.behind-place.result, c.behind-place.ensures.within, refl));
+      answer = not_full ps c.args.line.now c.start_in-start.result c.min-count.result c.start_in-start.ensures.is e left;
+      after = (put_behind ps c.args.line.now c.start_in-start.result c.min-count.result c.start_in-start.ensures.is e c.behind-place.result c.args.x s few c.behind-place.ensures, (c.behind-place.result, c.behind-place.ensures.within, refl));
     }

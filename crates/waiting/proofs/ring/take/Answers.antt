@@ -4,7 +4,7 @@ use Rattle.waiting.proofs.ring.take.Goals as goal
 
 pub returns-then-count-eq0 : goal.returns-then-count-eq0
 returns-then-count-eq0 g c =
-    (take_none c.args.places.now c.args.line.now c.start-in-start.result c.min-count.result c.start-in-start.ensures.is c.min-count.ensures c.if-count-eq0.true, refl)
+    (take_none c.args.places.now c.args.line.now c.start_in-start.result c.min-count.result c.start_in-start.ensures.is c.min-count.ensures c.if-count-eq0.true, refl)
 
 pub returns : goal.returns
 returns g c =
@@ -12,6 +12,6 @@ returns g c =
     let left = c.if-count-eq0.false in
     let e = c.min-count.ensures in
     let some : 0 < c.min-count.result = omega arith in
-    let s = c.start-in-start.ensures.below (omega arith) in
-    take_front ps c.args.line.now c.start-in-start.result c.min-count.result c.start-in-start.ensures.is e c.index-places-start.result c.index-places-start.result c.index-places-start.is s some
+    let s = c.start_in-start.ensures.below (omega arith) in
+    take_front ps c.args.line.now c.start_in-start.result c.min-count.result c.start_in-start.ensures.is e c.index-places-start.result c.index-places-start.result c.index-places-start.is s some
     c.next-line.result c.next-line.ensures.0 c.next-line.ensures.1

@@ -6,17 +6,17 @@ use Rattle.book.proofs.reader.Reader.more_items.Goals as goal
 pub loop-self-init : goal.loop-self-init
 loop-self-init c = body_start c.args.self.now
 
-pub returns-in-default-item : goal.returns-in-default-item
-returns-in-default-item c =
-    body_fails c.args.self.now c.loop-self.self c.loop-self.count c.loop-self.invariant c.keyword.new.self (took _ _ _ _ _ _ c.in-Some.ensures.answer) c.item.new.self c.in-default-item.ensures.answer
+pub returns-in_default-item : goal.returns-in_default-item
+returns-in_default-item c =
+    body_fails c.args.self.now c.loop-self.self c.loop-self.count c.loop-self.invariant c.keyword.new.self (took _ _ _ _ _ _ c.in-Some.ensures.answer) c.item.new.self c.in_default-item.ensures.answer
 
 pub loop-self-preserved : goal.loop-self-preserved
 loop-self-preserved c =
     body_next c.args.self.now c.loop-self.self c.loop-self.count c.loop-self.invariant c.keyword.new.self (took _ _ _ _ _ _ c.in-Some.ensures.answer) c.in-Some-item.field-0 c.item.new.self
     (took _ _ _ _ _ _ c.in-Some-item.ensures.answer)
 
-pub overflow-add-count : goal.overflow-add-count
-overflow-add-count c =
+pub overflow_add-count : goal.overflow_add-count
+overflow_add-count c =
     let s =
     body_next c.args.self.now c.loop-self.self c.loop-self.count c.loop-self.invariant c.keyword.new.self (took _ _ _ _ _ _ c.in-Some.ensures.answer) c.in-Some-item.field-0 c.item.new.self
     (took _ _ _ _ _ _ c.in-Some-item.ensures.answer) in
@@ -33,5 +33,5 @@ loop-self-smaller c =
 
 pub returns : goal.returns
 returns c =
-    let k = took_none _ _ _ _ _ c.in-default.ensures.answer in
-    body_end c.args.self.now c.loop-self.self c.loop-self.count c.loop-self.invariant c.keyword.new.self k.0 k.1 (c.in-default.ensures.stays refl)
+    let k = took_none _ _ _ _ _ c.in_default.ensures.answer in
+    body_end c.args.self.now c.loop-self.self c.loop-self.count c.loop-self.invariant c.keyword.new.self k.0 k.1 (c.in_default.ensures.stays refl)

@@ -3,28 +3,28 @@ use Rattle.std.proofs.lemmas.Nat.{ones-le}
 use Rattle.item_set.proofs.Words.{all_count}
 use Rattle.item_set.proofs.set.ItemSet.count.Goals as goal
 
-pub overflow-cast-result : goal.overflow-cast-result
-overflow-cast-result c = let h : get_or c.args.self.now.words 0 0 < 18446744073709551616 = search rules in let k = ones-le 64 (get_or c.args.self.now.words 0 0) h in omega arith
+pub overflow_cast-result : goal.overflow_cast-result
+overflow_cast-result c = let h : get_or c.args.self.now.words 0 0 < 18446744073709551616 = search rules in let k = ones-le 64 (get_or c.args.self.now.words 0 0) h in omega arith
 
-pub overflow-cast-result-2 : goal.overflow-cast-result-2
-overflow-cast-result-2 c = let h : get_or c.args.self.now.words 1 0 < 18446744073709551616 = search rules in let k = ones-le 64 (get_or c.args.self.now.words 1 0) h in omega arith
+pub overflow_cast-result-2 : goal.overflow_cast-result-2
+overflow_cast-result-2 c = let h : get_or c.args.self.now.words 1 0 < 18446744073709551616 = search rules in let k = ones-le 64 (get_or c.args.self.now.words 1 0) h in omega arith
 
-pub overflow-cast-result-3 : goal.overflow-cast-result-3
-overflow-cast-result-3 c = let h : get_or c.args.self.now.words 2 0 < 18446744073709551616 = search rules in let k = ones-le 64 (get_or c.args.self.now.words 2 0) h in omega arith
+pub overflow_cast-result-3 : goal.overflow_cast-result-3
+overflow_cast-result-3 c = let h : get_or c.args.self.now.words 2 0 < 18446744073709551616 = search rules in let k = ones-le 64 (get_or c.args.self.now.words 2 0) h in omega arith
 
-pub overflow-cast-result-4 : goal.overflow-cast-result-4
-overflow-cast-result-4 c = let h : get_or c.args.self.now.words 3 0 < 18446744073709551616 = search rules in let k = ones-le 64 (get_or c.args.self.now.words 3 0) h in omega arith
+pub overflow_cast-result-4 : goal.overflow_cast-result-4
+overflow_cast-result-4 c = let h : get_or c.args.self.now.words 3 0 < 18446744073709551616 = search rules in let k = ones-le 64 (get_or c.args.self.now.words 3 0) h in omega arith
 
-pub overflow-add-result : goal.overflow-add-result
-overflow-add-result c =
+pub overflow_add-result : goal.overflow_add-result
+overflow_add-result c =
     let h0 : get_or c.args.self.now.words 0 0 < 18446744073709551616 = search rules in
     let k0 = ones-le 64 (get_or c.args.self.now.words 0 0) h0 in
     let h1 : get_or c.args.self.now.words 1 0 < 18446744073709551616 = search rules in
     let k1 = ones-le 64 (get_or c.args.self.now.words 1 0) h1 in
     omega arith
 
-pub overflow-add-result-2 : goal.overflow-add-result-2
-overflow-add-result-2 c =
+pub overflow_add-result-2 : goal.overflow_add-result-2
+overflow_add-result-2 c =
     let h0 : get_or c.args.self.now.words 0 0 < 18446744073709551616 = search rules in
     let k0 = ones-le 64 (get_or c.args.self.now.words 0 0) h0 in
     let h1 : get_or c.args.self.now.words 1 0 < 18446744073709551616 = search rules in
@@ -33,8 +33,8 @@ overflow-add-result-2 c =
     let k2 = ones-le 64 (get_or c.args.self.now.words 2 0) h2 in
     omega arith
 
-pub overflow-add-result-3 : goal.overflow-add-result-3
-overflow-add-result-3 c =
+pub overflow_add-result-3 : goal.overflow_add-result-3
+overflow_add-result-3 c =
     let h0 : get_or c.args.self.now.words 0 0 < 18446744073709551616 = search rules in
     let k0 = ones-le 64 (get_or c.args.self.now.words 0 0) h0 in
     let h1 : get_or c.args.self.now.words 1 0 < 18446744073709551616 = search rules in

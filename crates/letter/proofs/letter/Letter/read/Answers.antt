@@ -3,37 +3,37 @@ use Rattle.std.proofs.lemmas.Result.{err_from_is_err_and}
 use Rattle.letter.proofs.Chained.{no_first, strange_kind, no_second, large_item_lem, good_letter, written_back}
 use Rattle.letter.proofs.letter.Letter.read.Goals as goal
 
-pub returns-in-err-kind : goal.returns-in-err-kind
-returns-in-err-kind c =
-    let p = err_from_is_err_and c.from-residual.result c.from-residual.ensures.1 in
-    let r = no_first c.args.bytes.now c.in-err-kind.field-0.0 c.in-err-kind.ensures in
+pub returns-in_err-kind : goal.returns-in_err-kind
+returns-in_err-kind c =
+    let p = err_from_is_err_and c.from_residual.result c.from_residual.ensures.1 in
+    let r = no_first c.args.bytes.now c.in_err-kind.field-0.0 c.in_err-kind.ensures in
     rw (p.1, p.2) (record { answer = r; written_back = written_back _ _ r })
 
-pub returns-in-default : goal.returns-in-default
-returns-in-default c =
-    let r = strange_kind c.args.bytes.now c.in-ok-kind.behind.now c.in-ok-kind.kind c.in-ok-kind.ensures (sym c.from-number.ensures ∙ c.in-default.is) in
+pub returns-in_default : goal.returns-in_default
+returns-in_default c =
+    let r = strange_kind c.args.bytes.now c.in_ok-kind.behind.now c.in_ok-kind.kind c.in_ok-kind.ensures (sym c.from_number.ensures ∙ c.in_default.is) in
     record { answer = r; written_back = written_back _ _ r }
 
-pub returns-in-err-item : goal.returns-in-err-item
-returns-in-err-item c =
-    let p = err_from_is_err_and c.from-residual-in-err-item.result c.from-residual-in-err-item.ensures.1 in
+pub returns-in_err-item : goal.returns-in_err-item
+returns-in_err-item c =
+    let p = err_from_is_err_and c.from_residual-in_err-item.result c.from_residual-in_err-item.ensures.1 in
     let r =
-    no_second c.args.bytes.now c.in-ok-kind.behind.now c.in-ok-kind.kind c.in-ok-kind.ensures c.in-Some.kind (sym c.from-number.ensures ∙ c.in-Some.is)
-    c.in-err-item.field-0.0 c.in-err-item.ensures in
+    no_second c.args.bytes.now c.in_ok-kind.behind.now c.in_ok-kind.kind c.in_ok-kind.ensures c.in-Some.kind (sym c.from_number.ensures ∙ c.in-Some.is)
+    c.in_err-item.field-0.0 c.in_err-item.ensures in
     rw (p.1, p.2) (record { answer = r; written_back = written_back _ _ r })
 
-pub returns-in-default-try-from : goal.returns-in-default-try-from
-returns-in-default-try-from c =
-    let large : 255 < c.in-ok-item.item = grind arith in
+pub returns-in_default-try_from : goal.returns-in_default-try_from
+returns-in_default-try_from c =
+    let large : 255 < c.in_ok-item.item = grind arith in
     let r =
-    large_item_lem c.args.bytes.now c.in-ok-kind.behind.now c.in-ok-kind.kind c.in-ok-kind.ensures c.in-Some.kind (sym c.from-number.ensures ∙ c.in-Some.is)
-    c.in-ok-item.item c.in-ok-item.rest.now c.in-ok-item.ensures large in
+    large_item_lem c.args.bytes.now c.in_ok-kind.behind.now c.in_ok-kind.kind c.in_ok-kind.ensures c.in-Some.kind (sym c.from_number.ensures ∙ c.in-Some.is)
+    c.in_ok-item.item c.in_ok-item.rest.now c.in_ok-item.ensures large in
     record { answer = r; written_back = written_back _ _ r }
 
 pub returns : goal.returns
 returns c =
     let small = c.in-Ok.ensures in
     let r =
-    good_letter c.args.bytes.now c.in-ok-kind.behind.now c.in-ok-kind.kind c.in-ok-kind.ensures c.in-Some.kind (sym c.from-number.ensures ∙ c.in-Some.is)
-    c.in-ok-item.item c.in-ok-item.rest.now c.in-ok-item.ensures small.0 in
+    good_letter c.args.bytes.now c.in_ok-kind.behind.now c.in_ok-kind.kind c.in_ok-kind.ensures c.in-Some.kind (sym c.from_number.ensures ∙ c.in-Some.is)
+    c.in_ok-item.item c.in_ok-item.rest.now c.in_ok-item.ensures small.0 in
     rw small.1 (record { answer = r; written_back = written_back _ _ r })

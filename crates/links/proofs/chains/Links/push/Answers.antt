@@ -5,8 +5,8 @@ use Rattle.links.specs.Chain.{last_of}
 use Rattle.links.proofs.Latest.{latest_push, earlier_push, pushed_is}
 use Rattle.links.proofs.chains.Links.push.Goals as goal
 
-pub invariant-of-self : goal.invariant-of-self
-invariant-of-self g c =
+pub invariant_of-self : goal.invariant_of-self
+invariant_of-self g c =
     let self = c.args.self.now in
     let ks = held self.keys in
     let key = c.args.key in
