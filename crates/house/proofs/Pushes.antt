@@ -44,5 +44,5 @@ has-any n [] k l e = absurd (omega arith)
 has-any n (x ∷ xs) zero l e = let h = e 0 in grind arith
 has-any n (x ∷ xs) (suc k) l e = let r = has-any n xs k (omega arith) e in grind arith
 
-pub contains_any : (xs : List ℕ) (n : ℕ) (r : Bool) → IsAnyAnswer (λ y t. Decides t (y ≡ n)) xs r → r ≡ any (eqb n) xs
+pub contains_any : (xs : List ℕ) (n : ℕ) (r : Bool) → IsAnyAnswer (λ y t. eqb y n ≡ t) xs r → r ≡ any (eqb n) xs
 contains_any xs n r s = same_from_decides r (any (eqb n) xs) (contains_decides eqb Decides-eqb xs n r s) (any-has n xs, (λ h. has-any n xs h.0 h.1 h.2))

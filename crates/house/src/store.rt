@@ -3,8 +3,8 @@ ghost use Rattle.table.specs.Held.{held};
 ghost use Rattle.house.specs.View.{rule_views};
 ghost use Rattle.house.specs.Soundness.{sound};
 
-use std::alloc::AllocError;
 use crate::tables::Tables;
+use std::alloc::AllocError;
 
 mod filled;
 mod looks;

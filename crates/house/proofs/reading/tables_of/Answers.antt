@@ -11,10 +11,10 @@ returns-in-Err c =
     let h = c.loop-reader-test.ensures in
     let few : length c.args.text.now ≤ 32768 = omega arith in
     let n : 0 < length (left c.loop-reader.reader) = grind arith in
-    stopped c.args.text.now few c.loop-reader.tables c.loop-reader.reader c.loop-reader.line c.loop-reader.invariant n c.next-line.new.reader c.next-line.new.self c.in-Err.fault c.in-Err.ensures
+    stopped c.args.text.now few c.loop-reader.tables c.loop-reader.reader c.loop-reader.line c.loop-reader.invariant n c.next_line.new.reader c.next_line.new.self c.in-Err.fault c.in-Err.ensures
 
-pub overflow-add-line : goal.overflow-add-line
-overflow-add-line c =
+pub overflow_add-line : goal.overflow_add-line
+overflow_add-line c =
     let few : length c.args.text.now ≤ 32768 = omega arith in
     let s = c.loop-reader.invariant in
     let a = s.counted in
@@ -27,14 +27,14 @@ loop-reader-smaller c =
     let h = c.loop-reader-test.ensures in
     let few : length c.args.text.now ≤ 32768 = omega arith in
     let n : 0 < length (left c.loop-reader.reader) = grind arith in
-    (passed c.args.text.now few c.loop-reader.tables c.loop-reader.reader c.loop-reader.line c.loop-reader.invariant n c.next-line.new.reader c.next-line.new.self c.in-default.ensures).1
+    (passed c.args.text.now few c.loop-reader.tables c.loop-reader.reader c.loop-reader.line c.loop-reader.invariant n c.next_line.new.reader c.next_line.new.self c.in_default.ensures).1
 
 pub loop-reader-preserved : goal.loop-reader-preserved
 loop-reader-preserved c =
     let h = c.loop-reader-test.ensures in
     let few : length c.args.text.now ≤ 32768 = omega arith in
     let n : 0 < length (left c.loop-reader.reader) = grind arith in
-    (passed c.args.text.now few c.loop-reader.tables c.loop-reader.reader c.loop-reader.line c.loop-reader.invariant n c.next-line.new.reader c.next-line.new.self c.in-default.ensures).0
+    (passed c.args.text.now few c.loop-reader.tables c.loop-reader.reader c.loop-reader.line c.loop-reader.invariant n c.next_line.new.reader c.next_line.new.self c.in_default.ensures).0
 
 pub returns : goal.returns
 returns c =

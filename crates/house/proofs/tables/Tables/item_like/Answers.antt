@@ -4,11 +4,11 @@ use Rattle.house.specs.Filling.{like_item}
 use Rattle.house.proofs.Firsts.{loop_found, loop_more, loop_none}
 use Rattle.house.proofs.tables.Tables.item_like.Goals as goal
 
-pub returns-then-like-item : goal.returns-then-like-item
-returns-then-like-item c = loop_found (like_item c.args.text.now c.args.item) (held c.args.self.now.items) c.as-slice-known-items.result.now c.as-slice-known-items.ensures c.loop-i.i c.loop-i.invariant _ c.loop-i-test.true c.if-like-item.ensures
+pub returns-then-like_item : goal.returns-then-like_item
+returns-then-like_item c = loop_found (like_item c.args.text.now c.args.item) (held c.args.self.now.items) c.as_slice-known-items.result.now c.as_slice-known-items.ensures c.loop-i.i c.loop-i.invariant _ c.loop-i-test.true c.if-like_item.ensures
 
 pub loop-i-preserved : goal.loop-i-preserved
-loop-i-preserved c = loop_more (like_item c.args.text.now c.args.item) (held c.args.self.now.items) c.as-slice-known-items.result.now c.as-slice-known-items.ensures c.loop-i.i c.loop-i.invariant _ c.loop-i-test.true c.if-like-item.ensures
+loop-i-preserved c = loop_more (like_item c.args.text.now c.args.item) (held c.args.self.now.items) c.as_slice-known-items.result.now c.as_slice-known-items.ensures c.loop-i.i c.loop-i.invariant _ c.loop-i-test.true c.if-like_item.ensures
 
 pub returns : goal.returns
-returns c = loop_none (like_item c.args.text.now c.args.item) (held c.args.self.now.items) c.as-slice-known-items.result.now c.as-slice-known-items.ensures c.loop-i.i c.loop-i.invariant (omega arith)
+returns c = loop_none (like_item c.args.text.now c.args.item) (held c.args.self.now.items) c.as_slice-known-items.result.now c.as_slice-known-items.ensures c.loop-i.i c.loop-i.invariant (omega arith)

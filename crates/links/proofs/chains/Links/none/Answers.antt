@@ -4,4 +4,10 @@ use Rattle.links.proofs.Latest.{none_latest, none_earlier}
 use Rattle.links.proofs.chains.Links.none.Goals as goal
 
 pub invariant_of-result : goal.invariant_of-result
-invariant_of-result g c = (refl, (length-replicate g.row.N 0, ((λ k l. none_latest _ c.new.ensures 256 k), (none_earlier _ _ c.new.ensures, tt))))
+invariant_of-result g c =
+    record {
+      all = refl;
+      room = length-replicate g.row.N 0;
+      latest = λ k l. none_latest _ c.new.ensures 256 k;
+      earlier = none_earlier _ _ c.new.ensures;
+    }
