@@ -4,4 +4,4 @@ use Rattle.book_check.proofs.report.put_house.Goals as goal
 
 pub returns : goal.returns
 returns c =
-    four-parts (vec_items c.args.out.now) _ _ _ _ _ _ _ _ c.in-ok-put-parties.ensures c.in-ok-put-items.ensures c.in-ok-put-rules.ensures c.in-ok-put-asked.ensures
+    four-parts (vec_items c.args.out.now) _ _ _ _ _ _ _ _ c.in_ok-put_parties.ensures c.in_ok-put_items.ensures c.in_ok-put_rules.ensures c.in_ok-put_asked.ensures

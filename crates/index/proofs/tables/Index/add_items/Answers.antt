@@ -6,7 +6,7 @@ use Rattle.links.specs.Keys.{keys}
 use Rattle.house.specs.House.{view}
 use Rattle.index.proofs.Adding.{put}
 use Rattle.index.proofs.tables.Index.add_items.Goals as goal
-use Rattle.index.proofs.tables.Index.add_items.Goals.{in-Some, in-default}
+use Rattle.index.proofs.tables.Index.add_items.Goals.{in-Some, in_default}
 
 pub loop-number-init : goal.loop-number-init
 loop-number-init c = ((λ e. e), refl, refl, refl)
@@ -32,7 +32,7 @@ loop-number-preserved c =
             ap (λ s. s.rules) w.self-is ∙ inv.2,
             ap (λ s. s.heads) w.self-is ∙ inv.3,
           )
-      | in-default w ↦ let none = w.in-default.ensures in let some = c.loop-number-test.true in let e = c.items-number-end.ensures in absurd (omega arith)
+      | in_default w ↦ let none = w.in_default.ensures in let some = c.loop-number-test.true in let e = c.items-number-end.ensures in absurd (omega arith)
     ]
 
 pub returns : goal.returns

@@ -12,7 +12,7 @@ use Rattle.house.proofs.Views.{length_views, short_views}
 use Rattle.index.specs.Uses.{rules_from}
 use Rattle.index.proofs.Adding.{put, joined_push, rules_push, few_uses}
 use Rattle.index.proofs.tables.Index.add_rules.Goals as goal
-use Rattle.index.proofs.tables.Index.add_rules.Goals.{in-Some, in-default}
+use Rattle.index.proofs.tables.Index.add_rules.Goals.{in-Some, in_default}
 
 pub loop-number-init : goal.loop-number-init
 loop-number-init c = ((λ a b d. (a, b, d)), refl)
@@ -41,20 +41,20 @@ loop-number-preserved c =
                 let size : length (keys c.loop-number.self.heads) ≡ n = ap length before.2 ∙ length-map (take n rules) (λ r. r.head) ∙ length-take-le n rules (omega arith) in
                 let short = All-get_or (λ r. length r.body ≤ 8) rules n rule lt (short_views (held t)) in
                 let small : length rule.body ≤ 8 = subst (λ r. length r.body ≤ 8) (sym is) short in
-                let body_is = w.as-slice.ensures in
+                let body_is = w.as_slice.ensures in
                 let l1 = ap length before.0 in
                 let l2 = ap length before.1 in
                 let l3 = ap length body_is in
-                let put-body = w.add-body.ensures.0 (omega arith) (omega arith) in (
-                  ap (λ s. keys s.uses) w.self-is ∙ put-body.0 ∙ ap (λ l. l ++ w.as-slice.result.now) before.0 ∙ ap (λ l. flat_map (λ r. r.body) (take n rules) ++ l) body_is ∙ sym (joined_push (take n rules) rule) ∙ ap (flat_map (λ r. r.body)) (sym take-is),
-                  ap (λ s. held s.rules) w.self-is ∙ put-body.1 ∙ ap (λ l. l ++ replicate (length w.as-slice.result.now) n) before.1 ∙ ap (λ l. rules_from 0 (take n rules) ++ replicate (length l) n) body_is
+                let put-body = w.add_body.ensures.0 (omega arith) (omega arith) in (
+                  ap (λ s. keys s.uses) w.self-is ∙ put-body.0 ∙ ap (λ l. l ++ w.as_slice.result.now) before.0 ∙ ap (λ l. flat_map (λ r. r.body) (take n rules) ++ l) body_is ∙ sym (joined_push (take n rules) rule) ∙ ap (flat_map (λ r. r.body)) (sym take-is),
+                  ap (λ s. held s.rules) w.self-is ∙ put-body.1 ∙ ap (λ l. l ++ replicate (length w.as_slice.result.now) n) before.1 ∙ ap (λ l. rules_from 0 (take n rules) ++ replicate (length l) n) body_is
                       ∙ sym (rules_push 0 (take n rules) rule n (let e = length-take-le n rules (omega arith) in omega arith)) ∙ ap (rules_from 0) (sym take-is),
-                  ap (λ s. keys s.heads) w.self-is ∙ ap keys w.add-body.ensures.1 ∙ put 512 (keys c.loop-number.self.heads) w.in-Some.rule.head w.push.result (keys w.push.new.self) w.push.ensures (omega arith) (omega arith)
+                  ap (λ s. keys s.heads) w.self-is ∙ ap keys w.add_body.ensures.1 ∙ put 512 (keys c.loop-number.self.heads) w.in-Some.rule.head w.push.result (keys w.push.new.self) w.push.ensures (omega arith) (omega arith)
                       ∙ ap (λ l. l ++ w.in-Some.rule.head ∷ []) before.2 ∙ ap (λ r. map (λ q. q.head) (take n rules) ++ r.head ∷ []) is ∙ sym (map_more (λ r. r.head) rules n rule lt),
                 )),
-            ap (λ s. s.credentials) w.self-is ∙ w.add-body.ensures.2 ∙ inv.1,
+            ap (λ s. s.credentials) w.self-is ∙ w.add_body.ensures.2 ∙ inv.1,
           )
-      | in-default w ↦ let none = w.in-default.ensures in let some = c.loop-number-test.true in let e = c.rules-number-end.ensures in absurd (omega arith)
+      | in_default w ↦ let none = w.in_default.ensures in let some = c.loop-number-test.true in let e = c.rules-number-end.ensures in absurd (omega arith)
     ]
 
 pub returns : goal.returns
@@ -65,8 +65,8 @@ returns c =
     let z = take_all c.loop-number.number rules (omega arith) in
     ((λ a b d. let all = inv.0 a b d in (all.0 ∙ ap (flat_map (λ r. r.body)) z, all.1 ∙ ap (rules_from 0) z, all.2 ∙ ap (map (λ r. r.head)) z)), inv.1)
 
-pub overflow-cast-number : goal.overflow-cast-number
-overflow-cast-number c =
+pub overflow_cast-number : goal.overflow_cast-number
+overflow_cast-number c =
     let t = c.args.house.now.tables.rules in
     let k = length-held t in
     let m = length_views (held t) in
