@@ -57,13 +57,13 @@ fn the_house_of_a_book(rt: HostRuntime) -> Result<(), Fail> {
         (asked.source, asked.destination, asked.credential),
         (1, 1, 0)
     );
-    assert!(rt; asked.part.cut(book) == b"Port^Port.berth(Q1)>Port");
+    assert!(rt; asked.part.cut(book) == b"Port^Port.berth(Q1)>Port".as_slice());
     let Some(rule) = house.rule(1) else {
         assert!(rt; false);
         return Ok(());
     };
     assert_eq!(rt; rule.head, 1);
-    assert!(rt; rule.body.as_slice() == [0, 2]);
+    assert!(rt; rule.body.as_slice() == [0, 2].as_slice());
     Ok(())
 }
 
@@ -101,6 +101,6 @@ fn one_credential_between_other_parties(rt: HostRuntime) -> Result<(), Fail> {
             credentials.push(item.credential)?;
         }
     }
-    assert!(rt; credentials.as_slice() == [0, 0, 0, 3]);
+    assert!(rt; credentials.as_slice() == [0, 0, 0, 3].as_slice());
     Ok(())
 }
