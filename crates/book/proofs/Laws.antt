@@ -5,7 +5,7 @@ use Rattle.std.proofs.lemmas.List.{take_at, drop_at}
 use Rattle.book.specs.Grammar.{letter, name_byte, Name, GoodName, more_terms, Credential, GoodCredential, credential_bytes, ItemText, GoodItem, item_bytes, more_items, LineText, line_bytes}
 use Rattle.book.specs.Reading.{item_in}
 use Rattle.book.specs.Places.{item_parts, item_size, credential_size}
-use Rattle.book.specs.Laws.{ItemLaw, cut_out, ItemCut, LineCut, PlacesLaw, LineEndLaw}
+use Rattle.book.specs.Laws.{ItemLaw, cut_out, ItemCut, LineCut, LinePlacesLaw, PlacesLaw, LineEndLaw}
 use Rattle.book.specs.Lines.{line_parts}
 use Rattle.book.proofs.Items.{item_at_lem, item_of}
 
@@ -65,10 +65,12 @@ cut_line before (LineText.rule h b bs) after =
       refl,
     )
 
+pub line_places_law : LinePlacesLaw
+line_places_law = cut_line
+
 pub places_law : PlacesLaw
 places_law =
     record {
-      line = cut_line;
       name = λ before n after. cut_between (before ++ (n ++ after)) before n after (length before) (length n) refl refl refl;
       item = cut_item;
       body = cut_body;

@@ -47,9 +47,12 @@ LineCut text (Ask p) (LineText.hold i) = ⊥
 LineCut text (Ask p) (LineText.rule h c cs) = ⊥
 LineCut text (Ask p) (LineText.ask i) = ItemCut text p i
 
--- a line that stands behind `before`; and names, items and bodies, where `before` includes the keyword
+-- of a line that stands behind `before`
+abbrev pub LinePlacesLaw : Type 0
+LinePlacesLaw = (before : List ℕ) (l : LineText) (after : List ℕ) → LineCut (before ++ (line_bytes l ++ after)) (line_parts (length before) l) l
+
+-- the parts of a line that stands behind `before`, with the keyword's bytes counted
 pub record PlacesLaw : Type 0 where
-  pub line : (before : List ℕ) (l : LineText) (after : List ℕ) → LineCut (before ++ (line_bytes l ++ after)) (line_parts (length before) l) l
   pub name : (before : List ℕ) (n : Name) (after : List ℕ) → cut_out (before ++ (n ++ after)) (name_part (length before) n) ≡ n
   pub item : (before : List ℕ) (i : ItemText) (after : List ℕ) → ItemCut (before ++ (item_bytes i ++ after)) (item_parts (length before) i) i
   pub body : (before : List ℕ) (h b : ItemText) (bs : List ItemText) (after : List ℕ) →

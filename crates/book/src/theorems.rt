@@ -1,6 +1,6 @@
 //! Theorems about the definitions: each is the contract of a function.
 ghost use Rattle.book.specs.Reading.{InverseLaw};
-ghost use Rattle.book.specs.Laws.{ItemLaw, LineEndLaw, PlacesLaw};
+ghost use Rattle.book.specs.Laws.{ItemLaw, LineEndLaw, LinePlacesLaw, PlacesLaw};
 
 /// A line is read exactly where a good line is written, and it is that line.
 pub fn inverse_law()
@@ -12,9 +12,10 @@ pub fn item_law()
     ensures { ItemLaw }
 {}
 
-/// The places of names, items and bodies cut just these out of the text.
+/// The places of names, items and bodies cut just these out of the text, and so do those of a whole line.
 pub fn places_law()
-    ensures { PlacesLaw }
+    ensures places { PlacesLaw }
+    ensures lines { LinePlacesLaw }
 {}
 
 /// The byte that ends a line stands nowhere else in it.

@@ -7,8 +7,7 @@ use Rattle.book.specs.Reading.{Parsed, line_in}
 use Rattle.book.specs.Lines.{line_size}
 use Rattle.book.proofs.Lines.{inverse_law}
 use Rattle.house.specs.Policies.{Policies, nothing, with, fault_of}
-use Rattle.house.specs.declared.refusal.Refusal.{Refusal}
-use Rattle.house.specs.Books.{unless, line_then, lines_from, book_read}
+use Rattle.house.specs.Books.{FaultAt, unless, line_then, lines_from, book_read}
 use Rattle.house.specs.RegisterLaw.{RegisterLaw}
 use Rattle.house.proofs.Stand.{lines_stand}
 use Rattle.house.proofs.Orderly.{lines_sorted, none_sorted, orderly}
@@ -37,7 +36,7 @@ module _ (bytes : List ℕ) (v : Policies) (place line : ℕ) (l : LineText) (re
       record { writing = e ∙ ap (λ x. line_bytes l ++ x) f.writing ∙ sym (append_assoc (line_bytes l) (lines_bytes ls) behind); good = (g, f.good); says = (n, f.says) }
 
   -- what is told of the bytes behind a line without fault is told of the line and them
-  later : (r : Result Policies Refusal) → Told rest (with v place l) (place + line_size l) (line + 1) r → Told bytes v place line r
+  later : (r : Result Policies FaultAt) → Told rest (with v place l) (place + line_size l) (line + 1) r → Told bytes v place line r
   later (Ok after) t = (l ∷ t.0, front t.0 after [] t.1)
   later (Err f) t = let k = t.5 in (l ∷ t.0, t.1, t.2, front t.0 t.1 t.2 t.3, t.4, omega arith)
 
@@ -57,7 +56,7 @@ module _
     abbrev bytes : List ℕ
     bytes = b ∷ bs
 
-    abbrev more : List ℕ → ℕ → Policies → Result Policies Refusal
+    abbrev more : List ℕ → ℕ → Policies → Result Policies FaultAt
     more rest next w = lines_from most rest next (line + 1) w
 
     judged : (l : LineText) (rest : List ℕ) → bytes ≡ line_bytes l ++ rest → GoodLine l → (f : Option Fault) → fault_of v l ≡ f →
@@ -119,7 +118,7 @@ at_fault (suc most) (b ∷ bs) place line v f h (inl y) =
 at_fault zero rest place line v f h (inr y) = absurd (let k = ap length y.2 ∙ length-append (line_bytes y.0) y.1 in let z = line_size_lem y.0 in omega arith)
 at_fault (suc most) rest place line v f h (inr y) = step most rest place line v y.0 y.1 y.2 y.3 (Some f) y.4
 
-answered : (text : List ℕ) (r : Result Policies Refusal) → Told text nothing 0 1 r → lines_from (length text) text 0 1 nothing ≡ r
+answered : (text : List ℕ) (r : Result Policies FaultAt) → Told text nothing 0 1 r → lines_from (length text) text 0 1 nothing ≡ r
 answered text (Ok w) t =
     let p = pass t.0 (length text) text 0 1 nothing w [] (omega arith) t.1 in
     p.3 ∙ at_end p.0 p.1 (1 + length t.0) w

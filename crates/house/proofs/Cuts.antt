@@ -1,8 +1,6 @@
 -- Parts of a text and the item at a place.
-use Rattle.std.proofs.Common.{◌≡◌, ℕ, ◌-◌, min, true, List, [], length, drop, Some, None, Option, sym, refl, ap, ◌∙◌, inl, inr, arith, drop_of_length-le}
-use Rattle.std.specs.Str.{bytes_eq}
+use Rattle.std.proofs.Common.{◌≡◌, ℕ, ◌-◌, min, true, eqb, List, [], ◌∷◌, length, drop, Some, None, Decides, Option, sym, refl, ap, ◌∙◌, inl, inr, arith, drop_of_length-le}
 use Rattle.std.proofs.lemmas.Bool.{cases_lt}
-use Rattle.std.proofs.lemmas.Slice.Eq.{bytes_eq-Decides}
 use Rattle.book.specs.declared.parts.ItemParts.{ItemParts}
 use Rattle.book.specs.declared.reader.Reader.{Reader}
 use Rattle.book.specs.Grammar.{ItemText}
@@ -10,13 +8,26 @@ use Rattle.book.specs.Reading.{Parsed, name_in, item_in}
 use Rattle.book.specs.Places.{left, Reads, item_parts, item_size}
 use Rattle.book.proofs.Cuts.{drop_min}
 use Rattle.house.specs.Filling.{item_at}
+use Rattle.house.specs.Policies.{same}
 use Rattle.house.proofs.Firsts.{some_none}
+use Rattle.house.proofs.Sound.{both}
 
-pub same_refl : (xs : List ℕ) → bytes_eq xs xs ≡ true
-same_refl xs = (bytes_eq-Decides xs xs).1 refl
+pub same_refl : (xs : List ℕ) → same xs xs ≡ true
+same_refl [] = refl
+same_refl (x ∷ xs) = let r = same_refl xs in grind arith
 
-pub same_is : (xs ys : List ℕ) → bytes_eq xs ys ≡ true → xs ≡ ys
-same_is xs ys = (bytes_eq-Decides xs ys).0
+pub same_is : (xs ys : List ℕ) → same xs ys ≡ true → xs ≡ ys
+same_is [] [] h = refl
+same_is [] (y ∷ ys) h = absurd (let f : ⊥ = grind arith in f)
+same_is (x ∷ xs) [] h = absurd (let f : ⊥ = grind arith in f)
+same_is (x ∷ xs) (y ∷ ys) h =
+    let s = both (eqb x y) (same xs ys) h in
+    let a : x ≡ y = grind arith in
+    let b = same_is xs ys s.1 in
+    cc
+
+pub same-Decides : (xs ys : List ℕ) → Decides (same xs ys) (xs ≡ ys)
+same-Decides xs ys = (same_is xs ys, λ e. ap (same xs) (sym e) ∙ same_refl xs)
 
 -- nothing stands behind the end
 no_item : item_in [] ≡ None

@@ -1,6 +1,5 @@
 -- The names of a rule are judged item by item.
 use Rattle.std.proofs.Common.{◌≡◌, ℕ, Bool, true, false, cond, not, ◌&&◌, ◌||◌, List, [], ◌∷◌, Some, None, Ok, Err, Result, sym, refl, ap, ◌∙◌, arith}
-use Rattle.std.specs.Str.{bytes_eq}
 use Rattle.table.specs.Held.{held}
 use Rattle.book.specs.declared.fault.Fault.{Fault}
 use Rattle.book.specs.declared.fault.Fault.TheVariants.{OneLetter, EnrolledBefore, NotEnrolled, Strange}
@@ -9,7 +8,7 @@ use Rattle.book.specs.Grammar.{ItemText}
 use Rattle.book.specs.Places.{item_one_letter, item_parts}
 use Rattle.house.specs.declared.tables.Tables.{Tables}
 use Rattle.house.specs.declared.reading.body.Body.{Body}
-use Rattle.house.specs.Policies.{Written, Policies, any, enrolled, has_one_letter, enrolled_before, not_enrolled, strange, has, first_true}
+use Rattle.house.specs.Policies.{same, Written, Policies, any, enrolled, has_one_letter, enrolled_before, not_enrolled, strange, has, first_true}
 use Rattle.house.specs.Filling.{alike, concerns, ends_enrolled, ItemAt, BodyAt, BodyNext, Filled, headed_line, as_fault}
 use Rattle.house.proofs.Firsts.{some_is, some_none}
 use Rattle.house.proofs.Spots.{item_cut}
@@ -20,7 +19,7 @@ abbrev pub unknown : Policies → ItemText → Bool
 unknown v i = not (enrolled v i.source && enrolled v i.destination)
 
 abbrev pub foreign : ItemText → ItemText → Bool
-foreign h i = not (bytes_eq i.source h.source || bytes_eq i.destination h.source)
+foreign h i = not (same i.source h.source || same i.destination h.source)
 
 or_step : (a b c r a2 : Bool) → (a || (b || c)) ≡ r → a2 ≡ (a || b) → (a2 || c) ≡ r
 or_step a b c r a2 h k = grind arith
@@ -64,10 +63,10 @@ module _ (text : List ℕ) (t : Tables) (head : ItemParts) (body : Body) where
             let e1 = hs ∙ ap (ends_enrolled text (held t.parties)) p ∙ enrolled_ends text t v f u there in
             let parts = item_parts left.place i in
             let owner = (item_parts w.place w.item).source in
-            let o1 : own ≡ (bytes_eq i.source w.item.source || bytes_eq i.destination w.item.source) =
+            let o1 : own ≡ (same i.source w.item.source || same i.destination w.item.source) =
             ho ∙ ap (concerns text head.source) p ∙ ap (λ q. concerns text q.source parts) e
             ∙ ap (λ b. b || alike text parts.destination owner) (same_cut text parts.source owner _ _ cut.source mine.source)
-            ∙ ap (λ b. bytes_eq i.source w.item.source || b) (same_cut text parts.destination owner _ _ cut.destination mine.source) in (
+            ∙ ap (λ b. same i.source w.item.source || b) (same_cut text parts.destination owner _ _ cut.destination mine.source) in (
               more,
               k.1,
               record {

@@ -2,15 +2,14 @@
 use Rattle.std.proofs.Common.{◌≡◌, ℕ, ◌+◌, ◌<◌, ◌≤◌, Bool, true, false, cond, not, ◌&&◌, ◌||◌, eqb, ltb, leb, List, [], ◌∷◌, ◌++◌, map, length, get_or, Some, None, codes, Option, sym, refl, ap, ◌∙◌, subst, inl, inr, arith, length-append}
 use lib.ListN.{length-map}
 use Rattle.std.specs.List.{AllByRecursion as All}
-use Rattle.std.specs.Str.{bytes_eq}
 use Rattle.std.proofs.lemmas.List.{get_or-map, get_or_append_left}
 use Rattle.std.proofs.ByRecursion.{All-push}
 use Rattle.book.specs.Grammar.{Name, credential_bytes, ItemText}
 use Rattle.book.specs.Places.{item_size}
 use Rattle.house.specs.declared.entries.Item.{Item}
 use Rattle.house.specs.View.{RuleView}
-use Rattle.house.specs.Soundness.{every, no_part, no_item, within, item_sound, body_sound, rule_sound, asked_sound, sound}
-use Rattle.house.specs.Policies.{Enrolled, Written, Policies, any, first_of, named, same_item, number, numbers, once, register, enrolled}
+use Rattle.house.specs.Soundness.{every, nowhere, no_item, within, item_sound, body_sound, rule_sound, asked_sound, sound}
+use Rattle.house.specs.Policies.{same, Enrolled, Written, Policies, any, first_of, named, same_item, number, numbers, once, register, enrolled}
 use Rattle.house.specs.Books.{party_part, entry}
 use Rattle.house.specs.Filling.{NameAt, ItemAt, Kept, with_items}
 use Rattle.house.proofs.Firsts.{first_passes, first_less}
@@ -122,7 +121,7 @@ module _ (v : Policies) where
     abbrev owner : ℕ
     owner = (get_or (map (entry v) v.items) (number v.items h) no_item).source
 
-    body_ok : (b : ItemText) → any (same_item b) v.items ≡ true → (bytes_eq b.source h.source || bytes_eq b.destination h.source) ≡ true → body_sound (map (entry v) v.items) owner (number v.items b) ≡ true
+    body_ok : (b : ItemText) → any (same_item b) v.items ≡ true → (same b.source h.source || same b.destination h.source) ≡ true → body_sound (map (entry v) v.items) owner (number v.items b) ≡ true
     body_ok b a c =
         let f = found_ends b a in
         let o = (found_ends h hh).0 in
@@ -132,7 +131,7 @@ module _ (v : Policies) where
           | inr e ↦ let s = f.1 ∙ ap (λ x. first_of (named x) v.parties) (same_is _ _ e) ∙ sym o in grind arith
         ]
 
-    bodies_ok : (bs : List ItemText) → All (λ b. any (same_item b) v.items ≡ true) bs → any (λ i. not (bytes_eq i.source h.source || bytes_eq i.destination h.source)) bs ≡ false →
+    bodies_ok : (bs : List ItemText) → All (λ b. any (same_item b) v.items ≡ true) bs → any (λ i. not (same i.source h.source || same i.destination h.source)) bs ≡ false →
         every (body_sound (map (entry v) v.items) owner) (numbers v.items bs) ≡ true
     bodies_ok [] a c = refl
     bodies_ok (b ∷ bs) a c =
@@ -148,17 +147,17 @@ module _ (v : Policies) where
         go true x y = x
         go false x y = y
 
-    pub rule_ok : (bs : List ItemText) → All (λ b. any (same_item b) v.items ≡ true) bs → any (λ i. not (bytes_eq i.source h.source || bytes_eq i.destination h.source)) bs ≡ false →
+    pub rule_ok : (bs : List ItemText) → All (λ b. any (same_item b) v.items ≡ true) bs → any (λ i. not (same i.source h.source || same i.destination h.source)) bs ≡ false →
         rule_sound (map (entry v) v.items) (record { head = number v.items h; body = once [] (numbers v.items bs) }) ≡ true
     rule_ok bs a c =
         let l = number_below h hh in
         let m = once-every (body_sound (map (entry v) v.items) owner) [] (numbers v.items bs) refl (bodies_ok bs a c) in
         grind arith
 
-  name_length_lem : (n : Name) → enrolled v n ≡ true → (get_or (map party_part v.parties) (first_of (named n) v.parties) no_part).length ≡ length n
+  name_length_lem : (n : Name) → enrolled v n ≡ true → (get_or (map party_part v.parties) (first_of (named n) v.parties) nowhere).length ≡ length n
   name_length_lem n h =
       let d : Enrolled = record { name = n; place = 0 } in
-      let e = get_or-map party_part v.parties (first_of (named n) v.parties) d no_part (first_less (named n) v.parties h) in
+      let e = get_or-map party_part v.parties (first_of (named n) v.parties) d nowhere (first_less (named n) v.parties h) in
       ap (λ p. p.length) e ∙ ap length (same_is _ _ (first_passes (named n) v.parties d h))
 
 item_room : (i : ItemText) → length i.source + length i.destination + 2 ≤ item_size i
@@ -202,13 +201,12 @@ module _ (text : List ℕ) (v : Policies) (k : Kept text v) where
       let t2 : ltb i1.destination (length parties) ≡ true = lt-ltb i1.destination (length parties) (omega arith) in
       let t3 : ltb i1.credential (length (map (entry v) v.items)) ≡ true = lt-ltb i1.credential (length (map (entry v) v.items)) (omega arith) in
       let t4 : within (length text) i1.part ≡ true = le_leb (i1.part.place + i1.part.length) (length text) (omega arith) in
-      let names = (get_or parties i1.source no_part).length + (get_or parties i1.destination no_part).length + 2 in
+      let names = (get_or parties i1.source nowhere).length + (get_or parties i1.destination nowhere).length + 2 in
       let t5 : leb names i1.part.length ≡ true = le_leb names i1.part.length (omega arith) in
       five _ _ _ _ _ t1 t2 t3 t4 t5
 
-  pub kept_sound : length text ≤ 32768 → sound (map party_part v.parties) (map (entry v) v.items) v.rules v.asked (length text) ≡ true
-  kept_sound short =
-      let e = le_leb (length text) 32768 short in
+  pub kept_sound : sound (map party_part v.parties) (map (entry v) v.items) v.rules v.asked (length text) ≡ true
+  kept_sound =
       let a = every_map party_part (within (length text)) v.parties (all_of party_within v.parties k.names) in
       let b = every_map (entry v) (item_sound (map party_part v.parties) (length (map (entry v) v.items)) (length text)) v.items
       (all_of entry-sound v.items (all_both (λ w. ItemAt text w × Ends v w) (λ w. any (credential_of w.item) v.items ≡ true) v.items (all_both (ItemAt text) (Ends v) v.items k.items k.ends) (credentials v.items))) in

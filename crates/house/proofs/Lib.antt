@@ -3,6 +3,7 @@ pub mod BookLaw
 pub mod Counts
 pub mod Cuts
 pub mod Dispatch
+pub mod Each
 pub mod Firsts
 pub mod Judged
 pub mod Judging

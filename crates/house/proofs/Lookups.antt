@@ -1,7 +1,6 @@
 -- Lookups in tables that hold policies find what the policies say.
 use Rattle.std.proofs.Common.{◌≡◌, ℕ, Bool, false, ◌&&◌, List, Some, None, ap, ◌∙◌}
 use Rattle.std.specs.List.{AllByRecursion as All}
-use Rattle.std.specs.Str.{bytes_eq}
 use Rattle.table.specs.Held.{held}
 use Rattle.book.specs.declared.parts.Part.{Part}
 use Rattle.book.specs.declared.parts.ItemParts.{ItemParts}
@@ -9,7 +8,7 @@ use Rattle.book.specs.Grammar.{Name}
 use Rattle.book.specs.Places.{item_parts}
 use Rattle.book.specs.Laws.{cut_out}
 use Rattle.house.specs.declared.tables.Tables.{Tables}
-use Rattle.house.specs.Policies.{Written, Policies, any, named, same_credential, same_item, enrolled}
+use Rattle.house.specs.Policies.{same, Written, Policies, any, named, same_credential, same_item, enrolled}
 use Rattle.house.specs.Books.{party_part, entry}
 use Rattle.house.specs.Filling.{found_in, alike, ends_enrolled, like_item, like_credential, ItemAt, Filled}
 use Rattle.house.proofs.Firsts.{any-map, found_map}
@@ -17,8 +16,8 @@ use Rattle.house.proofs.Spots.{name_cut, item_cut, item_read}
 use Rattle.house.proofs.Registers.{all_of, credential_of}
 
 module _ (text : List ℕ) where
-  pub same_cut : (a b : Part) (x y : List ℕ) → cut_out text a ≡ x → cut_out text b ≡ y → alike text a b ≡ bytes_eq x y
-  same_cut a b x y e f = ap (λ z. bytes_eq z (cut_out text b)) e ∙ ap (bytes_eq x) f
+  pub same_cut : (a b : Part) (x y : List ℕ) → cut_out text a ≡ x → cut_out text b ≡ y → alike text a b ≡ same x y
+  same_cut a b x y e f = ap (λ z. same z (cut_out text b)) e ∙ ap (same x) f
 
   abbrev items_alike : ItemParts → ItemParts → Bool
   items_alike first written = alike text first.source written.source && (alike text first.credential written.credential && alike text first.destination written.destination)
@@ -33,8 +32,8 @@ module _ (text : List ℕ) where
       let c = same_cut first.credential written.credential _ _ y.credential x.credential in
       let d = same_cut first.destination written.destination _ _ y.destination x.destination in
       ap (λ z. z && (alike text first.credential written.credential && alike text first.destination written.destination)) s
-      ∙ ap (λ z. bytes_eq u.item.source w.item.source && (z && alike text first.destination written.destination)) c
-      ∙ ap (λ z. bytes_eq u.item.source w.item.source && (same_credential u.item.credential w.item.credential && z)) d
+      ∙ ap (λ z. same u.item.source w.item.source && (z && alike text first.destination written.destination)) c
+      ∙ ap (λ z. same u.item.source w.item.source && (same_credential u.item.credential w.item.credential && z)) d
 
   module _ (v : Policies) (w : Written) (a : ItemAt text w) where
     like : (u : Written) → ItemAt text u → like_item text (item_parts w.place w.item) (entry v u) ≡ same_item w.item u

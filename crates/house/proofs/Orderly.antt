@@ -1,7 +1,6 @@
 -- Books that are read enrol and register nothing twice.
 use Rattle.std.proofs.Common.{◌≡◌, ℕ, zero, suc, ◌+◌, ◌<◌, Bool, true, false, cond, eqb, List, [], ◌∷◌, ◌++◌, length, get_or, None, sym, refl, ap, ◌∙◌, subst, inl, inr, arith, length-append}
 use Rattle.std.specs.List.{AllByRecursion as All}
-use Rattle.std.specs.Str.{bytes_eq}
 use Rattle.std.proofs.lemmas.List.{get_or_append_left, get_or-append-add}
 use Rattle.std.proofs.ByRecursion.{All-push, All-get_or}
 use Rattle.std.proofs.lemmas.Bool.{cases_lt}
@@ -10,7 +9,7 @@ use Rattle.book.specs.declared.fault.Fault.TheVariants.{EnrolledBefore, NotEnrol
 use Rattle.book.specs.Grammar.{Name, credential_bytes, ItemText, LineText}
 use Rattle.book.specs.Places.{item_size}
 use Rattle.book.specs.Lines.{line_size}
-use Rattle.house.specs.Policies.{Enrolled, Written, Policies, any, first_of, named, same_item, once, numbers, register, register_all, written_from, enrolled, with, has, fault_of}
+use Rattle.house.specs.Policies.{same, Enrolled, Written, Policies, any, first_of, named, same_item, once, numbers, register, register_all, written_from, enrolled, with, has, fault_of}
 use Rattle.house.specs.Books.{entry}
 use Rattle.house.specs.BookLaw.{Says, Smallest}
 use Rattle.house.specs.RegisterLaw.{SameItem, SameEntry, Once, Orderly}
@@ -123,9 +122,9 @@ module _ (v : Policies) (s : Sorted v) where
 
   of_same : (i j : ItemText) (place : ℕ) → SameItem i j → same_item j (record { item = i; place = place }) ≡ true
   of_same i j place e =
-      let a = ap (λ x. bytes_eq x j.source) e.source ∙ same_refl j.source in
-      let b = ap (λ x. bytes_eq x (credential_bytes j.credential)) e.credential ∙ same_refl (credential_bytes j.credential) in
-      let c = ap (λ x. bytes_eq x j.destination) e.destination ∙ same_refl j.destination in
+      let a = ap (λ x. same x j.source) e.source ∙ same_refl j.source in
+      let b = ap (λ x. same x (credential_bytes j.credential)) e.credential ∙ same_refl (credential_bytes j.credential) in
+      let c = ap (λ x. same x j.destination) e.destination ∙ same_refl j.destination in
       grind arith
 
   same_number : (j k : Written) → (entry v j).credential ≡ (entry v k).credential → any (credential_of j.item) v.items ≡ true → any (credential_of k.item) v.items ≡ true →
@@ -157,7 +156,7 @@ module _ (v : Policies) (s : Sorted v) where
             let first : j < length v.items = omega arith in
             differ j k d l m
             (same_entry (record { name = []; place = 0 }) (get_or v.items j d) (get_or v.items k d) (All-get_or (Ends v) v.items j d first s.ends) (All-get_or (Ends v) v.items k d m s.ends) (has-credential j d first) (has-credential k d m) e);
-        parties = λ i j d l m e. contrary (sym (s.parties i j d l m) ∙ (ap (λ x. bytes_eq x (get_or v.parties j d).name) e ∙ same_refl (get_or v.parties j d).name));
+        parties = λ i j d l m e. contrary (sym (s.parties i j d l m) ∙ (ap (λ x. same x (get_or v.parties j d).name) e ∙ same_refl (get_or v.parties j d).name));
         items = differ;
         bodies = s.bodies;
         sources = λ d. all_of (λ w h. name_at d w.item.source h.0) v.items s.ends;
@@ -165,6 +164,6 @@ module _ (v : Policies) (s : Sorted v) where
         credentials = λ j k d l m. (
           (λ e. same_number (get_or v.items j d) (get_or v.items k d) e
               (has-credential j d l) (has-credential k d m)),
-          (λ e. ap (λ b. first_of (λ u. bytes_eq (credential_bytes u.item.credential) b) v.items) e),
+          (λ e. ap (λ b. first_of (λ u. same (credential_bytes u.item.credential) b) v.items) e),
         );
       }

@@ -22,9 +22,6 @@ all_of p f (x ∷ xs) h = let s = both (p x) (every p xs) h in (f x s.0, all_of 
 below : (m n : ℕ) → ltb m n ≡ true → m < n
 below m n h = grind arith
 
-below_or_same : (n : ℕ) → leb n 32768 ≡ true → n ≤ 32768
-below_or_same n h = grind arith
-
 same : (m n : ℕ) → eqb m n ≡ true → m ≡ n
 same m n h = grind arith
 
@@ -60,18 +57,12 @@ module _ (v : View) where
   asked_within None h d e = grind arith
   asked_within (Some a) h d e = grind arith
 
-  pub sound_view : length v.parties ≤ 16 → length v.items ≤ 256 → length v.rules ≤ 512 → All (λ r. length r.body ≤ 8) v.rules → sound v.parties v.items v.rules v.asked v.size ≡ true → Sound v
-  sound_view p i r s h =
-      let t = both _ _ h in
-      let a = both _ _ t.1 in
+  pub sound_view : sound v.parties v.items v.rules v.asked v.size ≡ true → Sound v
+  sound_view h =
+      let a = both _ _ h in
       let b = both _ _ a.1 in
       let c = both _ _ b.1 in
       record {
-        few_parties = p;
-        few_items = i;
-        few_rules = r;
-        short_text = below_or_same v.size t.0;
-        short_bodies = s;
         parties = all_of (within v.size) part_within v.parties a.0;
         items = all_of (item_sound v.parties (length v.items) v.size) good_entry v.items b.0;
         rules = all_of (rule_sound v.items) good_rule v.rules c.0;

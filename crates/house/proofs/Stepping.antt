@@ -1,5 +1,5 @@
 -- A whole text is read line after line.
-use Rattle.std.proofs.Common.{◌≡◌, ℕ, zero, suc, ◌+◌, ◌<◌, ◌≤◌, min, true, cond, List, [], ◌∷◌, ◌++◌, length, take, drop, Some, None, Ok, Err, Option, Result, sym, refl, ap, ◌∙◌, arith, length-append, take-append-drop}
+use Rattle.std.proofs.Common.{◌≡◌, ℕ, zero, suc, ◌+◌, ◌<◌, ◌≤◌, min, true, cond, List, [], ◌∷◌, ◌++◌, map, length, take, drop, Some, None, Ok, Err, Option, Result, sym, refl, ap, ◌∙◌, arith, length-append, take-append-drop}
 use Rattle.std.proofs.lemmas.List.{drop_at, drop-drop, length-take-le}
 use Rattle.std.proofs.lemmas.Bool.{le-ltb}
 use Rattle.table.specs.Held.{held}
@@ -12,14 +12,14 @@ use Rattle.book.specs.Reading.{Parsed, line_in}
 use Rattle.book.specs.Places.{left}
 use Rattle.book.specs.Lines.{LineRead, line_parts, line_size}
 use Rattle.book.proofs.Lines.{inverse_law}
-use Rattle.house.specs.declared.refusal.Refusal.{Refusal}
 use Rattle.house.specs.declared.tables.Tables.{Tables}
 use Rattle.house.specs.View.{View, rule_views, empty_view}
 use Rattle.house.specs.Soundness.{sound}
 use Rattle.house.specs.Tables.{tables_view}
 use Rattle.house.specs.Policies.{Policies, nothing, with, fault_of}
-use Rattle.house.specs.Books.{unless, line_then, lines_from, book_read, house_read, view_of}
+use Rattle.house.specs.Books.{FaultAt, unless, line_then, lines_from, book_read, party_part, entry, house_read, view_of}
 use Rattle.house.specs.Filling.{LineAt, Filled, Added, AddsLine, TakenLine, TakesLine, TablesRead}
+use Rattle.house.proofs.Each.{each-map}
 use Rattle.house.proofs.Firsts.{some_none}
 use Rattle.house.proofs.Pushes.{err_ok, err_is, ok_is}
 use Rattle.house.proofs.Keeping.{kept_sound}
@@ -101,13 +101,18 @@ module _ (text : List ℕ) (t : Tables) (v : Policies) (f : Filled text t v) whe
 
   view_is : read ≡ tables_view (length text) t
   view_is =
-      ap (λ x. record { parties = x; items = read.items; rules = read.rules; asked = read.asked; size = length text }) (sym f.parties)
-      ∙ ap (λ x. record { parties = held t.parties; items = x; rules = read.rules; asked = read.asked; size = length text }) (sym f.items)
+      ap (λ x. record { parties = x; items = read.items; rules = read.rules; asked = read.asked; size = length text }) (each-map party_part v.parties ∙ sym f.parties)
+      ∙ ap (λ x. record { parties = held t.parties; items = x; rules = read.rules; asked = read.asked; size = length text }) (each-map (entry v) v.items ∙ sym f.items)
       ∙ ap (λ x. record { parties = held t.parties; items = held t.items; rules = x; asked = read.asked; size = length text }) (sym f.rules)
       ∙ ap (λ x. record { parties = held t.parties; items = held t.items; rules = rule_views (held t.rules); asked = x; size = length text }) (sym f.asked)
 
-  tables_sound : length text ≤ 32768 → sound (held t.parties) (held t.items) (rule_views (held t.rules)) t.asked (length text) ≡ true
-  tables_sound short = ap (λ w. sound w.parties w.items w.rules w.asked (length text)) (sym view_is) ∙ kept_sound text v f.kept short
+  tables_sound : sound (held t.parties) (held t.items) (rule_views (held t.rules)) t.asked (length text) ≡ true
+  tables_sound =
+      ap (λ x. sound x (held t.items) (rule_views (held t.rules)) t.asked (length text)) f.parties
+      ∙ ap (λ x. sound (map party_part v.parties) x (rule_views (held t.rules)) t.asked (length text)) f.items
+      ∙ ap (λ x. sound (map party_part v.parties) (map (entry v) v.items) x t.asked (length text)) f.rules
+      ∙ ap (λ x. sound (map party_part v.parties) (map (entry v) v.items) v.rules x (length text)) f.asked
+      ∙ kept_sound text v f.kept
 
 -- one line and those behind it
 unfold_line : (most : ℕ) (bytes : List ℕ) (place line : ℕ) (v : Policies) → length bytes ≤ most → 0 < length bytes →
@@ -119,7 +124,7 @@ unfold_line (suc m) (b ∷ bs) place line v l n = (m, refl, refl)
 short_read : (text : List ℕ) → length text ≤ 32768 → book_read text ≡ lines_from (length text) text 0 1 nothing
 short_read text h = ap (λ c. cond c (Err (record { fault = TooLong; line = 0 })) (lines_from (length text) text 0 1 nothing)) (le-ltb 32768 (length text) h)
 
-shown : (text : List ℕ) (answer : Result Policies Refusal) → book_read text ≡ answer → house_read text ≡ (elim answer [ Ok v ↦ Ok (view_of (length text) v) | Err f ↦ Err f ])
+shown : (text : List ℕ) (answer : Result Policies FaultAt) → book_read text ≡ answer → house_read text ≡ (elim answer [ Ok v ↦ Ok (view_of (length text) v) | Err f ↦ Err f ])
 shown text answer e = ap (λ x. (elim x [ Ok v ↦ Ok (view_of (length text) v) | Err f ↦ Err f ])) e
 
 module _ (text : List ℕ) (short : length text ≤ 32768) (t : Tables) (reader : Reader) (line : ℕ) (s : ReadSoFar text t reader line) where
@@ -127,7 +132,7 @@ module _ (text : List ℕ) (short : length text ≤ 32768) (t : Tables) (reader 
     abbrev opened : (less : ℕ) × (s.most ≡ suc less) × (lines_from s.most (left reader) reader.place line s.so_far ≡ line_then (line_in (left reader)) reader.place line s.so_far (λ rest next w. lines_from less rest next (line + 1) w))
     opened = unfold_line s.most (left reader) reader.place line s.so_far s.enough n
 
-    abbrev more : List ℕ → ℕ → Policies → Result Policies Refusal
+    abbrev more : List ℕ → ℕ → Policies → Result Policies FaultAt
     more rest next w = lines_from opened.0 rest next (line + 1) w
 
     -- a line at fault ends the reading
@@ -185,7 +190,7 @@ module _ (text : List ℕ) (short : length text ≤ 32768) (t : Tables) (reader 
       let v = s.so_far in
       let none : left reader ≡ [] = no_bytes (left reader) z in
       let read_is : book_read text ≡ Ok v = short_read text short ∙ sym s.to_come ∙ ap (λ x. lines_from s.most x reader.place line v) none ∙ at_end s.most reader.place line v in
-      (shown text (Ok v) read_is ∙ ap Ok (view_is text t v s.filled), tables_sound text t v s.filled short)
+      (shown text (Ok v) read_is ∙ ap Ok (view_is text t v s.filled), tables_sound text t v s.filled, short)
     where
       no_bytes : (xs : List ℕ) → length xs ≡ 0 → xs ≡ []
       no_bytes [] e = refl

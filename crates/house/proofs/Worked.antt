@@ -22,6 +22,7 @@ worked =
       strange = refl;
       second = refl;
       most_parties = refl;
+      sixteen_parties = refl;
       more_parties = refl;
       one_letter_unknown = refl;
       unknown_strange = refl;

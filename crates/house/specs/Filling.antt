@@ -1,8 +1,7 @@
 -- For the inner contracts of reading: where names, items and lines stand in the text, what the tables hold of the policies
 -- so far, and what each step does.
-use Rattle.std.specs.Prelude.{◌≡◌, ℕ, ◌+◌, ◌<◌, Bool, true, false, cond, ◌&&◌, ◌||◌, List, [], ◌∷◌, ◌++◌, map, length, drop, Some, None, Ok, Err, Option, Result}
+use Rattle.std.specs.Prelude.{◌≡◌, ℕ, ◌+◌, ◌<◌, ◌≤◌, Bool, true, false, cond, ◌&&◌, ◌||◌, List, [], ◌∷◌, ◌++◌, map, length, drop, Some, None, Ok, Err, Option, Result}
 use Rattle.std.specs.List.{AllByRecursion as All}
-use Rattle.std.specs.Str.{bytes_eq}
 use Rattle.table.specs.Held.{held}
 use Rattle.book.specs.declared.fault.Fault.{Fault}
 use Rattle.book.specs.declared.fault.Fault.TheVariants.{NoForm, OneLetter, EnrolledBefore, NotEnrolled, Strange, TooMany}
@@ -22,7 +21,7 @@ use Rattle.house.specs.declared.reading.body.Body.{Body}
 use Rattle.house.specs.View.{rule_views}
 use Rattle.house.specs.Soundness.{every, rule_sound, asked_sound, sound}
 use Rattle.house.specs.Tables.{tables_view}
-use Rattle.house.specs.Policies.{Enrolled, Written, Policies, any, first_of, enrolled, number, register, written_from, with, has, first_true, fault_of}
+use Rattle.house.specs.Policies.{same, Enrolled, Written, Policies, any, first_of, enrolled, number, register, written_from, with, has, first_true, fault_of}
 use Rattle.house.specs.Books.{party_part, entry, house_read}
 
 -- Lookups in the tables, by the bytes at the places that they keep.
@@ -32,7 +31,7 @@ found_in p xs = cond (any p xs) (Some (first_of p xs)) None
 
 -- the same bytes stand at two parts
 abbrev pub alike : List ℕ → Part → Part → Bool
-alike text one other = bytes_eq (cut_out text one) (cut_out text other)
+alike text one other = same (cut_out text one) (cut_out text other)
 
 abbrev pub ends_enrolled : List ℕ → List Part → ItemParts → Bool
 ends_enrolled text parties i = any (λ p. alike text p i.source) parties && any (λ p. alike text p i.destination) parties
@@ -169,5 +168,7 @@ TakesLine text before reader answer after behind =
 -- The tables of a whole text.
 abbrev pub TablesRead : List ℕ → Result Tables Refusal → Type 0
 TablesRead text (Ok t) =
-    (house_read text ≡ Ok (tables_view (length text) t)) × (sound (held t.parties) (held t.items) (rule_views (held t.rules)) t.asked (length text) ≡ true)
-TablesRead text (Err e) = house_read text ≡ Err e
+    (house_read text ≡ Ok (tables_view (length text) t))
+    × (sound (held t.parties) (held t.items) (rule_views (held t.rules)) t.asked (length text) ≡ true)
+    × (length text ≤ 32768)
+TablesRead text (Err e) = house_read text ≡ Err (record { fault = e.fault; line = e.line })

@@ -4,14 +4,14 @@ use Rattle.std.specs.List.{AllByRecursion as All}
 use Rattle.book.specs.declared.parts.Part.{Part}
 use Rattle.house.specs.declared.entries.Item.{Item}
 use Rattle.house.specs.View.{RuleView, View}
-use Rattle.house.specs.Soundness.{no_part, no_item}
+use Rattle.house.specs.Soundness.{nowhere, no_item}
 
 abbrev pub Within : View → Part → Type 0
 Within v p = p.place + p.length ≤ v.size
 
 -- the length of a party's name
 abbrev pub name_length : View → ℕ → ℕ
-name_length v party = (slice_index_or v.parties party no_part).length
+name_length v party = (slice_index_or v.parties party nowhere).length
 
 -- an entry whose numbers are those of enrolled parties and registered items, and whose writing lies in the text
 pub record GoodEntry (v : View) (i : Item) : Type 0 where
@@ -19,7 +19,7 @@ pub record GoodEntry (v : View) (i : Item) : Type 0 where
   pub destination : i.destination < length v.parties
   pub credential : i.credential < length v.items
   pub part : Within v i.part
-  -- the two names, `^` and `>` have room in it, with the credential between them
+  -- the two names, `^` and `>` have room in it
   pub room : name_length v i.source + name_length v i.destination + 2 ≤ i.part.length
 
 -- a registered item of which the owner is the source or the destination
@@ -32,14 +32,17 @@ pub record GoodRule (v : View) (r : RuleView) : Type 0 where
   pub head : r.head < length v.items
   pub body : All (Concerns v (slice_index_or v.items r.head no_item).source) r.body
 
--- what is true of every house, its limits included
+-- what is true of every house
 pub record Sound (v : View) : Type 0 where
+  pub parties : All (Within v) v.parties
+  pub items : All (GoodEntry v) v.items
+  pub rules : All (GoodRule v) v.rules
+  pub asked : (d : ℕ) → v.asked ≡ Some d → d < length v.items
+
+-- and its limits
+pub record Limits (v : View) : Type 0 where
   pub few_parties : length v.parties ≤ 16
   pub few_items : length v.items ≤ 256
   pub few_rules : length v.rules ≤ 512
   pub short_text : v.size ≤ 32768
   pub short_bodies : All (λ r. length r.body ≤ 8) v.rules
-  pub parties : All (Within v) v.parties
-  pub items : All (GoodEntry v) v.items
-  pub rules : All (GoodRule v) v.rules
-  pub asked : (d : ℕ) → v.asked ≡ Some d → d < length v.items

@@ -1,6 +1,5 @@
 -- What a book says, line by line: the faults of a line that has a form, and what a line without fault adds.
-use Rattle.std.specs.Prelude.{ℕ, suc, ◌+◌, Bool, true, false, cond, not, ◌&&◌, ◌||◌, List, [], ◌∷◌, ◌++◌, map, length, is_some, Some, None, Option, nat_eq, nat_lt}
-use Rattle.std.specs.Str.{bytes_eq}
+use Rattle.std.specs.Prelude.{ℕ, suc, ◌+◌, Bool, true, false, cond, not, ◌&&◌, ◌||◌, List, [], ◌∷◌, ◌++◌, length, Some, None, Option, ◌==◌, nat_eq, nat_lt}
 use Rattle.book.specs.declared.fault.Fault.{Fault}
 use Rattle.book.specs.declared.fault.Fault.TheVariants.{TooLong, NoForm, OneLetter, EnrolledBefore, NotEnrolled, Strange, TooMany, SecondAsk}
 use Rattle.book.specs.Grammar.{Name, Credential, credential_bytes, ItemText, LineText}
@@ -28,6 +27,12 @@ pub record Policies : Type 0 where
 abbrev pub nothing : Policies
 nothing = record { parties = []; items = []; rules = []; asked = None }
 
+abbrev pub same : List ℕ → List ℕ → Bool
+same [] [] = true
+same [] (b ∷ bs) = false
+same (a ∷ more) [] = false
+same (a ∷ more) (b ∷ bs) = let r = same more bs in (a == b) && r
+
 abbrev pub any : {X : Type 0} → (X → Bool) → List X → Bool
 any p [] = false
 any p (x ∷ xs) = let r = any p xs in p x || r
@@ -38,14 +43,14 @@ first_of p [] = 0
 first_of p (x ∷ xs) = let r = first_of p xs in cond (p x) 0 (suc r)
 
 abbrev pub named : Name → Enrolled → Bool
-named n e = bytes_eq e.name n
+named n e = same e.name n
 
 abbrev pub same_credential : Credential → Credential → Bool
-same_credential a b = bytes_eq (credential_bytes a) (credential_bytes b)
+same_credential a b = same (credential_bytes a) (credential_bytes b)
 
 -- two items are the same if source, credential and destination are
 abbrev pub same_item : ItemText → Written → Bool
-same_item i w = bytes_eq w.item.source i.source && (same_credential w.item.credential i.credential && bytes_eq w.item.destination i.destination)
+same_item i w = same w.item.source i.source && (same_credential w.item.credential i.credential && same w.item.destination i.destination)
 
 -- the number of an item in the register
 abbrev pub number : List Written → ItemText → ℕ
@@ -71,7 +76,8 @@ once seen (n ∷ ns) = cond (any (nat_eq n) seen) (once seen ns) (once (seen ++ 
 
 -- the numbers of items, in the order of writing
 abbrev pub numbers : List Written → List ItemText → List ℕ
-numbers items is = map (number items) is
+numbers items [] = []
+numbers items (i ∷ is) = let r = numbers items is in number items i ∷ r
 
 -- a rule whose head is written at a place, its body behind the head and ` if `; a held item has no body
 abbrev pub with_rule : Policies → ℕ → ItemText → List ItemText → Policies
@@ -138,13 +144,17 @@ not_enrolled v l = any (λ i. not (enrolled v i.source && enrolled v i.destinati
 
 -- a body item of which the owner is neither source nor destination
 abbrev pub strange : LineText → Bool
-strange l = any (λ i. not (bytes_eq i.source (owner_of l) || bytes_eq i.destination (owner_of l))) (body_of l)
+strange l = any (λ i. not (same i.source (owner_of l) || same i.destination (owner_of l))) (body_of l)
 
 -- with this line there are more than 16 parties, 256 items or 512 rules, or its body has more than 8 items as written
 abbrev pub too_many : Policies → LineText → Bool
 too_many v l =
     let w = with v 0 l in
     nat_lt 16 (length w.parties) || (nat_lt 256 (length w.items) || (nat_lt 512 (length w.rules) || nat_lt 8 (length (body_of l))))
+
+abbrev pub is_some : Option ℕ → Bool
+is_some None = false
+is_some (Some d) = true
 
 abbrev pub second_ask : Policies → LineText → Bool
 second_ask v l = asks l && is_some v.asked

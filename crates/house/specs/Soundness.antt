@@ -10,11 +10,11 @@ every p [] = true
 every p (x ∷ xs) = let r = every p xs in p x && r
 
 -- what stands for a part or an item past the end of a list
-abbrev pub no_part : Part
-no_part = record { place = 0; length = 0 }
+abbrev pub nowhere : Part
+nowhere = record { place = 0; length = 0 }
 
 abbrev pub no_item : Item
-no_item = record { source = 0; destination = 0; credential = 0; part = no_part }
+no_item = record { source = 0; destination = 0; credential = 0; part = nowhere }
 
 -- a part of the text
 abbrev pub within : ℕ → Part → Bool
@@ -25,7 +25,7 @@ within size p = nat_le (p.place + p.length) size
 abbrev pub item_sound : List Part → ℕ → ℕ → Item → Bool
 item_sound parties count size i =
     nat_lt i.source (length parties) && (nat_lt i.destination (length parties) && (nat_lt i.credential count && (within size i.part &&
-    nat_le ((slice_index_or parties i.source no_part).length + (slice_index_or parties i.destination no_part).length + 2) i.part.length)))
+    nat_le ((slice_index_or parties i.source nowhere).length + (slice_index_or parties i.destination nowhere).length + 2) i.part.length)))
 
 -- a registered item of which the owner is the source or the destination
 abbrev pub body_sound : List Item → ℕ → ℕ → Bool
@@ -42,4 +42,4 @@ asked_sound count (Some d) = nat_lt d count
 -- the whole test
 abbrev pub sound : List Part → List Item → List RuleView → Option ℕ → ℕ → Bool
 sound parties items rules asked size =
-    nat_le size 32768 && (every (within size) parties && (every (item_sound parties (length items) size) items && (every (rule_sound items) rules && asked_sound (length items) asked)))
+    every (within size) parties && (every (item_sound parties (length items) size) items && (every (rule_sound items) rules && asked_sound (length items) asked))

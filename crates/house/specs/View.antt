@@ -1,5 +1,5 @@
 -- What a house says: its tables without unused slots.
-use Rattle.std.specs.Prelude.{◌≡◌, ℕ, ◌<◌, ◌≤◌, List, [], map, length, Some, None, Option, slice_index_or}
+use Rattle.std.specs.Prelude.{◌≡◌, ℕ, ◌<◌, ◌≤◌, List, [], ◌∷◌, length, Some, None, Option, slice_index_or}
 use Rattle.table.specs.Held.{held}
 use Rattle.book.specs.declared.parts.Part.{Part}
 use Rattle.house.specs.declared.entries.Item.{Item}
@@ -15,7 +15,8 @@ rule_view r = record { head = r.head; body = held r.body }
 
 -- the rules of a table
 abbrev pub rule_views : List Rule → List RuleView
-rule_views rs = map rule_view rs
+rule_views [] = []
+rule_views (r ∷ rs) = let vs = rule_views rs in rule_view r ∷ vs
 
 -- the parties in the order of enrolment, by the places of their names; the items in the order of first writing; the rules in
 -- the order of their lines; the asked item; the length of the text

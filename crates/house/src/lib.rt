@@ -13,6 +13,5 @@ mod theorems;
 pub use entries::{Item, MOST_BODY, Rule};
 pub use reading::MOST_BYTES;
 pub use refusal::Refusal;
-pub use store::{House, read};
-pub use tables::{MOST_ITEMS, MOST_PARTIES, MOST_RULES};
+pub use store::{House, MOST_ITEMS, MOST_PARTIES, MOST_RULES, read};
 pub use theorems::{book_law, register_law, worked_books};

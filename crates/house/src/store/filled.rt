@@ -13,7 +13,10 @@ pub fn read(text: &[u8], house: &mut House) -> Result<(), Refusal>
     match tables_of(text) {
         Ok(tables) => {
             *house = House {
-                tables,
+                parties: tables.parties,
+                items: tables.items,
+                rules: tables.rules,
+                asked: tables.asked,
                 text_length: text.len(),
             };
             Ok(())

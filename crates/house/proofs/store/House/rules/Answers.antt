@@ -4,4 +4,4 @@ use Rattle.house.proofs.Views.{length_views}
 use Rattle.house.proofs.store.House.rules.Goals as goal
 
 pub returns : goal.returns
-returns c = c.len.ensures ∙ sym (length_views (held c.args.self.now.tables.rules))
+returns c = c.len.ensures ∙ sym (length_views (held c.args.self.now.rules))

@@ -9,12 +9,21 @@ use Rattle.house.proofs.store.House.soundness_law.Goals as goal
 pub returns : goal.returns
 returns c =
     let h = c.args.self.now in
-    let t = h.tables in
-    let p = length-held t.parties in
-    let i = length-held t.items in
-    let r = length-held t.rules in
-    let pf = t.parties.fits in
-    let jf = t.items.fits in
-    let rf = t.rules.fits in
-    let n = length_views (held t.rules) in
-    sound_view (view h) (omega arith) (omega arith) (omega arith) (short_views (held t.rules)) h.sound
+    let p = length-held h.parties in
+    let i = length-held h.items in
+    let r = length-held h.rules in
+    let pf = h.parties.fits in
+    let jf = h.items.fits in
+    let rf = h.rules.fits in
+    let n = length_views (held h.rules) in
+    record {
+      sound = sound_view (view h) h.sound;
+      limits =
+          record {
+            few_parties = omega arith;
+            few_items = omega arith;
+            few_rules = omega arith;
+            short_text = h.short;
+            short_bodies = short_views (held h.rules);
+          };
+    }
