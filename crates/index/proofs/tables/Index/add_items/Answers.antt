@@ -14,7 +14,7 @@ loop-number-init c = ((λ e. e), refl, refl, refl)
 pub loop-number-preserved : goal.loop-number-preserved
 loop-number-preserved c =
     let items = (view c.args.house.now).items in
-    let t = c.args.house.now.tables.items in
+    let t = c.args.house.now.items in
     let k = length-held t in
     let fits = t.fits in
     let inv = c.loop-number.invariant in

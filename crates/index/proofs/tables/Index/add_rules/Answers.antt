@@ -20,7 +20,7 @@ loop-number-init c = ((λ a b d. (a, b, d)), refl)
 pub loop-number-preserved : goal.loop-number-preserved
 loop-number-preserved c =
     let rules = (view c.args.house.now).rules in
-    let t = c.args.house.now.tables.rules in
+    let t = c.args.house.now.rules in
     let k = length-held t in
     let m = length_views (held t) in
     let fits = t.fits in
@@ -67,7 +67,7 @@ returns c =
 
 pub overflow_cast-number : goal.overflow_cast-number
 overflow_cast-number c =
-    let t = c.args.house.now.tables.rules in
+    let t = c.args.house.now.rules in
     let k = length-held t in
     let m = length_views (held t) in
     let fits = t.fits in
