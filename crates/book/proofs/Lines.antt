@@ -1,5 +1,5 @@
 -- Lines are read as they are written.
-use Rattle.std.proofs.Common.{◌≡◌, ℕ, zero, suc, ◌+◌, ◌≤◌, List, [], ◌∷◌, ◌++◌, length, Some, None, codes, sym, refl, ap, ◌∙◌, subst, append_assoc, arith, length-append}
+use Rattle.std.proofs.Common.{◌≡◌, ℕ, zero, suc, ◌≤◌, List, [], ◌∷◌, ◌++◌, length, Some, None, codes, sym, refl, ap, ◌∙◌, subst, append_assoc, arith, length-append}
 use Rattle.std.specs.List.{AllByRecursion as All}
 use Rattle.book.specs.Grammar.{ItemText, GoodItem, item_bytes, more_items, LineText, GoodLine, line_bytes}
 use Rattle.book.specs.Reading.{Parsed, then, name_in, word_in, item_in, more_in, party_in, hold_in, rule_in, ask_in, behind, line_in, InverseLaw}

@@ -9,7 +9,7 @@ use Rattle.book.specs.Places.{item_size}
 use Rattle.house.specs.declared.entries.Item.{Item}
 use Rattle.house.specs.View.{RuleView}
 use Rattle.house.specs.Soundness.{every, nowhere, no_item, within, item_sound, body_sound, rule_sound, asked_sound, sound}
-use Rattle.house.specs.Policies.{same, Enrolled, Written, Policies, any, first_of, named, same_item, number, numbers, once, register, enrolled}
+use Rattle.house.specs.Policies.{same, Enrolled, Written, Policies, any, first_of, named, same_item, number, numbers, once, enrolled}
 use Rattle.house.specs.Books.{party_part, entry}
 use Rattle.house.specs.Filling.{NameAt, ItemAt, Kept, with_items}
 use Rattle.house.proofs.Firsts.{first_passes, first_less}

@@ -1,6 +1,5 @@
 use Rattle.std.proofs.Common.{◌≡◌, ℕ, true, false, ◌++◌, length, drop, sym, refl, ap, ◌∙◌, subst, arith, length-drop}
 use Rattle.std.proofs.lemmas.Slice.Eq.{starts_is}
-use Rattle.book.specs.Places.{left}
 use Rattle.book.proofs.Words.{word_moves, word_stays}
 use Rattle.book.proofs.reader.Reader.keyword.Goals as goal
 use Rattle.std.proofs.lemmas.Bool.Decides.{Decides-eqb}

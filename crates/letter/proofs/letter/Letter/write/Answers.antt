@@ -1,4 +1,4 @@
-use Rattle.std.proofs.Common.{◌≡◌, ◌+◌, ◌-◌, ◌++◌, take, drop, ap, ◌∙◌, arith}
+use Rattle.std.proofs.Common.{◌≡◌, ◌-◌, ◌++◌, take, drop, ap, ◌∙◌, arith}
 use Rattle.letter.specs.Letters.{kind_number}
 use Rattle.letter.specs.Numbers.{leb}
 use Rattle.letter.specs.Bytes.{letter_bytes}
