@@ -1,6 +1,6 @@
 -- The body items of a rule, counted from left to right.
 use Rattle.std.proofs.Common.{◌≡◌, ℕ, zero, suc, ◌+◌, ◌<◌, ◌≤◌, List, [], ◌∷◌, ◌++◌, length, drop, Some, None, codes, sym, refl, ap, ◌∙◌, subst, append_assoc, append-nil, arith, length-append}
-use Rattle.std.specs.List.{AllByRecursion as All}
+use Rattle.std.specs.List.{AllByRecursion}
 use Rattle.std.proofs.ByRecursion.{All-push}
 use Rattle.book.specs.declared.parts.ItemParts.{ItemParts}
 use Rattle.book.specs.declared.reader.Reader.{Reader}
@@ -34,14 +34,14 @@ step_more most i is rest g s =
     ap (more_in (suc most)) e ∙ one_more most (item_bytes i ++ (more_items is ++ rest))
     ∙ then_at (item_in (item_bytes i ++ (more_items is ++ rest))) (λ j r. then (more_in most r) (λ js x. Some (j ∷ js, x))) (item_at_lem i (more_items is ++ rest) g s)
 
-all_more : (most : ℕ) (is : List ItemText) (rest : List ℕ) → All GoodItem is → length is ≤ most → (0 < length is → Stop rest) → word_in (codes " and ") rest ≡ None → more_in most (more_items is ++ rest) ≡ Some (is, rest)
+all_more : (most : ℕ) (is : List ItemText) (rest : List ℕ) → AllByRecursion GoodItem is → length is ≤ most → (0 < length is → Stop rest) → word_in (codes " and ") rest ≡ None → more_in most (more_items is ++ rest) ≡ Some (is, rest)
 all_more most [] rest g h s n = no_more most rest n
 all_more zero (i ∷ is) rest g h s n = absurd (omega arith)
 all_more (suc most) (i ∷ is) rest g h s n =
     step_more most i is rest g.0 (follows_stop is rest (λ _. s (omega arith)))
     ∙ then_at (more_in most (more_items is ++ rest)) (λ js x. Some (i ∷ js, x)) (all_more most is rest g.1 (omega arith) (λ _. s (omega arith)) n)
 
-none_more : (most : ℕ) (is : List ItemText) (b : List ℕ) → All GoodItem is → length is < most → item_in b ≡ None → more_in most (more_items is ++ (codes " and " ++ b)) ≡ None
+none_more : (most : ℕ) (is : List ItemText) (b : List ℕ) → AllByRecursion GoodItem is → length is < most → item_in b ≡ None → more_in most (more_items is ++ (codes " and " ++ b)) ≡ None
 none_more zero is b g h n = absurd (omega arith)
 none_more (suc most) [] b g h n = one_more most b ∙ ap (λ o. then o (λ i r. then (more_in most r) (λ is x. Some (i ∷ is, x)))) n
 none_more (suc most) (i ∷ is) b g h n =
@@ -56,7 +56,7 @@ more_push (j ∷ js) i =
 -- what was read so far
 pub record BodySoFar (before at : Reader) (count : ℕ) : Type 0 where
   pub done : List ItemText
-  pub good : All GoodItem done
+  pub good : AllByRecursion GoodItem done
   pub bytes_are : left before ≡ more_items done ++ left at
   pub ends : 0 < length done → Stop (left at)
   pub counted : count ≡ length done

@@ -1,6 +1,6 @@
 -- Items are read as they are written.
 use Rattle.std.proofs.Common.{◌≡◌, ℕ, zero, suc, ◌≤◌, Bool, true, false, cond, eqb, List, [], ◌∷◌, ◌++◌, length, Some, None, codes, sym, refl, ap, ◌∙◌, subst, append_assoc, arith}
-use Rattle.std.specs.List.{AllByRecursion as All}
+use Rattle.std.specs.List.{AllByRecursion}
 use Rattle.book.specs.Grammar.{Name, GoodName, Credential, GoodCredential, ItemText, GoodItem, more_terms, credential_bytes, item_bytes}
 use Rattle.book.specs.Reading.{Parsed, then, name_in, word_in, terms_in, credential_in, item_in}
 use Rattle.book.proofs.Names.{Stop, then_some, some_parts, name_at, name_of, word_at, word_of}
@@ -9,7 +9,7 @@ terms_stop : (ts : List Name) (rest : List ℕ) → Stop (more_terms ts ++ 41 �
 terms_stop [] rest = refl
 terms_stop (t ∷ ts) rest = refl
 
-terms_at : (most : ℕ) (ts : List Name) (rest : List ℕ) → All GoodName ts → length ts ≤ most → terms_in most (more_terms ts ++ 41 ∷ rest) ≡ Some (ts, rest)
+terms_at : (most : ℕ) (ts : List Name) (rest : List ℕ) → AllByRecursion GoodName ts → length ts ≤ most → terms_in most (more_terms ts ++ 41 ∷ rest) ≡ Some (ts, rest)
 unfolding terms_in
 terms_at zero [] rest g h = refl
 terms_at zero (t ∷ ts) rest g h = absurd (omega arith)
@@ -19,14 +19,14 @@ terms_at (suc most) (t ∷ ts) rest g h =
     rw (append_assoc t (more_terms ts) (41 ∷ rest), name_at t (more_terms ts ++ 41 ∷ rest) g.0 (terms_stop ts rest), ih) refl
 
 abbrev TermsOf : ℕ → List ℕ → List Name → List ℕ → Type 0
-TermsOf most bytes ts rest = (bytes ≡ more_terms ts ++ 41 ∷ rest) × All GoodName ts × (length ts ≤ most)
+TermsOf most bytes ts rest = (bytes ≡ more_terms ts ++ 41 ∷ rest) × AllByRecursion GoodName ts × (length ts ≤ most)
 
 no_terms : (most b : ℕ) (bs : List ℕ) (ts : List Name) (rest : List ℕ) → eqb 41 b ≡ true → ◌≡◌ {A = Parsed (List Name)} (Some ([], bs)) (Some (ts, rest)) → TermsOf most (b ∷ bs) ts rest
 no_terms most b bs ts rest t f =
     let p = some_parts [] ts bs rest f in
     let e : 41 ≡ b = grind arith in
     let k : length ts ≤ most = omega (arith, ap length p.0) in
-    (ap (λ x. x ∷ bs) (sym e) ∙ (λ i. more_terms (p.0 i) ++ 41 ∷ p.1 i), subst (All GoodName) p.0 tt, k)
+    (ap (λ x. x ∷ bs) (sym e) ∙ (λ i. more_terms (p.0 i) ++ 41 ∷ p.1 i), subst (AllByRecursion GoodName) p.0 tt, k)
 
 terms_of : (most : ℕ) (bytes : List ℕ) (ts : List Name) (rest : List ℕ) → terms_in most bytes ≡ Some (ts, rest) → TermsOf most bytes ts rest
 unfolding terms_in
@@ -51,7 +51,7 @@ terms_of (suc most) (b ∷ bs) ts rest e = go (eqb 41 b) refl (eqb 44 b) refl e 
         let m = ih p.1 q.0 q.1 q.2 in
         let e : 44 ≡ b = grind arith in (
           ap (λ x. x ∷ bs) (sym e) ∙ ap (λ x. 44 ∷ x) (n.0 ∙ ap (λ x. p.0 ++ x) m.0 ∙ sym (append_assoc p.0 (more_terms q.0) (41 ∷ q.1))) ∙ (λ i. more_terms (r.0 i) ++ 41 ∷ r.1 i),
-          subst (All GoodName) r.0 (n.1, m.1),
+          subst (AllByRecursion GoodName) r.0 (n.1, m.1),
           (let k = m.2 in omega (arith, ap length r.0)),
         )
 

@@ -1,6 +1,6 @@
 -- The laws of the grammar.
 use Rattle.std.proofs.Common.{◌≡◌, ℕ, ◌+◌, Bool, true, not, ◌&&◌, T, eqb, ◌≢◌, List, [], ◌∷◌, ◌++◌, length, take, drop, codes, sym, refl, ap, ◌∙◌, subst, append_assoc, arith, length-append}
-use Rattle.std.specs.List.{AllByRecursion as All}
+use Rattle.std.specs.List.{AllByRecursion}
 use Rattle.std.proofs.lemmas.List.{take_at, drop_at}
 use Rattle.book.specs.Grammar.{letter, name_byte, Name, GoodName, more_terms, Credential, GoodCredential, credential_bytes, ItemText, GoodItem, item_bytes, more_items, LineText, line_bytes}
 use Rattle.book.specs.Reading.{item_in}
@@ -78,13 +78,13 @@ places_law =
 
 -- bytes other than 10
 abbrev Unended : List ℕ → Type 0
-Unended bs = All (λ b. b ≢ 10) bs
+Unended bs = AllByRecursion (λ b. b ≢ 10) bs
 
 both : (xs ys : List ℕ) → Unended xs → Unended ys → Unended (xs ++ ys)
 both [] ys h k = k
 both (x ∷ xs) ys h k = (h.0, both xs ys h.1 k)
 
-run_unended : (n : List ℕ) → All (λ c. T (name_byte c)) n → Unended n
+run_unended : (n : List ℕ) → AllByRecursion (λ c. T (name_byte c)) n → Unended n
 run_unended [] h = tt
 run_unended (b ∷ bs) h = ((λ e. subst (λ x. T (name_byte x)) e h.0), run_unended bs h.1)
 
@@ -100,7 +100,7 @@ word_unended : (bs : List ℕ) → T (no_end bs) → Unended bs
 word_unended [] t = tt
 word_unended (b ∷ bs) t = ((λ e. grind arith), word_unended bs (grind arith))
 
-terms_unended : (ts : List Name) → All GoodName ts → Unended (more_terms ts)
+terms_unended : (ts : List Name) → AllByRecursion GoodName ts → Unended (more_terms ts)
 terms_unended [] g = tt
 terms_unended (t ∷ ts) g = both (codes ",") (t ++ more_terms ts) (word_unended (codes ",") tt) (both t (more_terms ts) (name_unended t g.0) (terms_unended ts g.1))
 
@@ -120,7 +120,7 @@ item_unended i g =
     (both (credential_bytes i.credential) _ (credential_unended i.credential g.credential)
     (both (codes ">") i.destination (word_unended (codes ">") tt) (name_unended i.destination g.destination))))
 
-items_unended : (is : List ItemText) → All GoodItem is → Unended (more_items is)
+items_unended : (is : List ItemText) → AllByRecursion GoodItem is → Unended (more_items is)
 items_unended [] g = tt
 items_unended (i ∷ is) g = both (codes " and ") _ (word_unended (codes " and ") tt) (both (item_bytes i) (more_items is) (item_unended i g.0) (items_unended is g.1))
 

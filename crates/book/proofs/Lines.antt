@@ -1,6 +1,6 @@
 -- Lines are read as they are written.
 use Rattle.std.proofs.Common.{◌≡◌, ℕ, zero, suc, ◌≤◌, List, [], ◌∷◌, ◌++◌, length, Some, None, codes, sym, refl, ap, ◌∙◌, subst, append_assoc, arith, length-append}
-use Rattle.std.specs.List.{AllByRecursion as All}
+use Rattle.std.specs.List.{AllByRecursion}
 use Rattle.book.specs.Grammar.{ItemText, GoodItem, item_bytes, more_items, LineText, GoodLine, line_bytes}
 use Rattle.book.specs.Reading.{Parsed, then, name_in, word_in, item_in, more_in, party_in, hold_in, rule_in, ask_in, behind, line_in, InverseLaw}
 use Rattle.book.proofs.Names.{Stop, then_some, some_parts, name_at, name_of, word_of}
@@ -10,7 +10,7 @@ items_stop : (is : List ItemText) (rest : List ℕ) → Stop (more_items is ++ 1
 items_stop [] rest = refl
 items_stop (i ∷ is) rest = refl
 
-more_at : (most : ℕ) (is : List ItemText) (rest : List ℕ) → All GoodItem is → length is ≤ most → more_in most (more_items is ++ 10 ∷ rest) ≡ Some (is, 10 ∷ rest)
+more_at : (most : ℕ) (is : List ItemText) (rest : List ℕ) → AllByRecursion GoodItem is → length is ≤ most → more_in most (more_items is ++ 10 ∷ rest) ≡ Some (is, 10 ∷ rest)
 unfolding more_in word_in
 more_at zero [] rest g h = refl
 more_at zero (i ∷ is) rest g h = absurd (omega arith)
@@ -19,16 +19,16 @@ more_at (suc most) (i ∷ is) rest g h =
     let ih = more_at most is rest g.1 (omega arith) in
     rw (append_assoc (item_bytes i) (more_items is) (10 ∷ rest), item_at_lem i (more_items is ++ 10 ∷ rest) g.0 (items_stop is rest), ih) refl
 
-more_of : (most : ℕ) (bytes : List ℕ) (is : List ItemText) (rest : List ℕ) → more_in most bytes ≡ Some (is, rest) → (bytes ≡ more_items is ++ rest) × All GoodItem is
+more_of : (most : ℕ) (bytes : List ℕ) (is : List ItemText) (rest : List ℕ) → more_in most bytes ≡ Some (is, rest) → (bytes ≡ more_items is ++ rest) × AllByRecursion GoodItem is
 unfolding more_in
-more_of zero bytes is rest e = let r = some_parts [] is bytes rest e in ((λ j. more_items (r.0 j) ++ r.1 j), subst (All GoodItem) r.0 tt)
+more_of zero bytes is rest e = let r = some_parts [] is bytes rest e in ((λ j. more_items (r.0 j) ++ r.1 j), subst (AllByRecursion GoodItem) r.0 tt)
 more_of (suc most) bytes is rest e = go (word_in (codes " and ") bytes) refl e (more_of most)
   where
     go : (o : Parsed (Unit {0})) → word_in (codes " and ") bytes ≡ o →
         elim o as (λ _. Parsed (List ItemText)) [ None ↦ Some ([], bytes) | Some p ↦ then (item_in p.1) λ i r. then (more_in most r) λ js b. Some (i ∷ js, b) ] ≡ Some (is, rest) →
-        ((bytes : List ℕ) (is : List ItemText) (rest : List ℕ) → more_in most bytes ≡ Some (is, rest) → (bytes ≡ more_items is ++ rest) × All GoodItem is) →
-        (bytes ≡ more_items is ++ rest) × All GoodItem is
-    go None w f ih = let r = some_parts [] is bytes rest f in ((λ j. more_items (r.0 j) ++ r.1 j), subst (All GoodItem) r.0 tt)
+        ((bytes : List ℕ) (is : List ItemText) (rest : List ℕ) → more_in most bytes ≡ Some (is, rest) → (bytes ≡ more_items is ++ rest) × AllByRecursion GoodItem is) →
+        (bytes ≡ more_items is ++ rest) × AllByRecursion GoodItem is
+    go None w f ih = let r = some_parts [] is bytes rest f in ((λ j. more_items (r.0 j) ++ r.1 j), subst (AllByRecursion GoodItem) r.0 tt)
     go (Some p) w f ih =
         let q = then_some (item_in p.1) _ _ f in
         let q2 = then_some (more_in most q.1) _ _ q.3 in
@@ -37,7 +37,7 @@ more_of (suc most) bytes is rest e = go (word_in (codes " and ") bytes) refl e (
         let b = item_of p.1 q.0 q.1 q.2 in
         let d = ih q.1 q2.0 q2.1 q2.2 in (
           a ∙ ap (λ x. codes " and " ++ x) (b.0 ∙ ap (λ x. item_bytes q.0 ++ x) d.0 ∙ sym (append_assoc (item_bytes q.0) (more_items q2.0) q2.1)) ∙ (λ j. more_items (r.0 j) ++ r.1 j),
-          subst (All GoodItem) r.0 (b.1, d.1),
+          subst (AllByRecursion GoodItem) r.0 (b.1, d.1),
         )
 
 pub items_long : (is : List ItemText) → length is ≤ length (more_items is)

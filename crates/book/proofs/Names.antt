@@ -1,6 +1,6 @@
 -- Names and words are read as they are written.
 use Rattle.std.proofs.Common.{◌≡◌, ℕ, Bool, true, false, cond, T, List, [], ◌∷◌, ◌++◌, Some, None, Option, refl, ap, ◌∙◌, subst, arith}
-use Rattle.std.specs.List.{AllByRecursion as All}
+use Rattle.std.specs.List.{AllByRecursion}
 use Rattle.book.specs.Grammar.{name_byte, NameEnds, Name, GoodName}
 use Rattle.book.specs.Reading.{Parsed, then, run, name_start, name_in, word_in}
 
@@ -18,7 +18,7 @@ then_at {a = a} {rest = rest} p f e = ap (λ o. then o f) e
 pub some_parts : {A B : Type 0} (a c : A) (b d : B) → ◌≡◌ {A = Option (A × B)} (Some (a, b)) (Some (c, d)) → (a ≡ c) × (b ≡ d)
 some_parts {A} {B} a c b d e = let p : ◌≡◌ {A = A × B} (a, b) (c, d) = cc in (ap (λ q. q.0) p, ap (λ q. q.1) p)
 
-pub run_at : (n rest : List ℕ) → All (λ c. T (name_byte c)) n → Stop rest → run (n ++ rest) ≡ (n, rest)
+pub run_at : (n rest : List ℕ) → AllByRecursion (λ c. T (name_byte c)) n → Stop rest → run (n ++ rest) ≡ (n, rest)
 run_at [] [] h s = refl
 run_at [] (b ∷ bs) h s = rw s refl
 run_at (c ∷ cs) rest h s = let ih = run_at cs rest h.1 s in let t : name_byte c ≡ true = grind arith in rw (t, ih) refl
@@ -27,7 +27,7 @@ pub run_whole : (bytes : List ℕ) → bytes ≡ (run bytes).0 ++ (run bytes).1
 run_whole [] = refl
 run_whole (b ∷ bs) = let ih = run_whole bs in grind arith
 
-run_good : (bytes : List ℕ) → All (λ c. T (name_byte c)) (run bytes).0
+run_good : (bytes : List ℕ) → AllByRecursion (λ c. T (name_byte c)) (run bytes).0
 run_good [] = tt
 run_good (b ∷ bs) = let ih = run_good bs in grind arith
 
@@ -39,7 +39,7 @@ run_stop (b ∷ bs) = go (name_byte b) refl (run_stop bs)
     go true e ih = ih
     go false e ih = e
 
-good_is : (n : Name) → All (λ c. T (name_byte c)) n → name_start n ≡ true → GoodName n
+good_is : (n : Name) → AllByRecursion (λ c. T (name_byte c)) n → name_start n ≡ true → GoodName n
 good_is [] h e = absurd (let z : ◌≡◌ {A = ℕ} 0 1 = cc in omega arith)
 good_is (b ∷ bs) h e = ((grind arith), h.1, (grind arith))
 
@@ -47,7 +47,7 @@ is_good : (n : Name) → GoodName n → name_start n ≡ true
 is_good [] g = absurd g
 is_good (b ∷ bs) g = let l = g.0 in let k = g.2 in grind arith
 
-good_bytes : (n : Name) → GoodName n → All (λ c. T (name_byte c)) n
+good_bytes : (n : Name) → GoodName n → AllByRecursion (λ c. T (name_byte c)) n
 good_bytes [] g = absurd g
 good_bytes (b ∷ bs) g = ((grind arith), g.1)
 

@@ -1,6 +1,6 @@
 -- The longest front of name bytes, found from left to right.
 use Rattle.std.proofs.Common.{◌≡◌, ℕ, ◌+◌, ◌<◌, ◌≤◌, true, false, cond, ◌&&◌, T, leb, ◌⊎◌, List, [], ◌∷◌, length, get_or, take, drop, Some, None, sym, refl, ap, ◌∙◌, subst, inl, inr, arith, length-append}
-use Rattle.std.specs.List.{AllByRecursion as All}
+use Rattle.std.specs.List.{AllByRecursion}
 use Rattle.std.proofs.ByRecursion.{All-push}
 use Rattle.std.proofs.lemmas.List.{take-append-drop, take_all, take_more, drop_more, drop_all, length-take-le}
 use Rattle.book.specs.Grammar.{name_byte}
@@ -9,7 +9,7 @@ use Rattle.book.specs.Places.{letter_first, name_size}
 use Rattle.book.proofs.Names.{Stop, run_at, run_whole}
 
 abbrev NameBytes : List ℕ → Type 0
-NameBytes bs = All (λ b. T (name_byte b)) bs
+NameBytes bs = AllByRecursion (λ b. T (name_byte b)) bs
 
 run_front : (bytes : List ℕ) (i : ℕ) → NameBytes (take i bytes) → Stop (drop i bytes) → (run bytes).0 ≡ take i bytes
 run_front bytes i h s = ap (λ b. (run b).0) (sym (take-append-drop i bytes)) ∙ ap (λ p. p.0) (run_at (take i bytes) (drop i bytes) h s)

@@ -1,6 +1,6 @@
 -- The lines of a book as they are written: names, items and the four forms, when they are good, and their bytes.
 use Rattle.std.specs.Prelude.{◌≡◌, ℕ, ◌≤◌, Bool, false, ◌&&◌, ◌||◌, T, List, [], ◌∷◌, ◌++◌, length, codes, nat_le}
-use Rattle.std.specs.List.{AllByRecursion as All}
+use Rattle.std.specs.List.{AllByRecursion}
 
 -- A to Z, a to z
 abbrev pub letter : ℕ → Bool
@@ -16,7 +16,7 @@ Name = List ℕ
 -- a well-formed name: a letter first, then letters and digits, 1 to 16 bytes
 abbrev pub GoodName : Name → Type 0
 GoodName [] = ⊥
-GoodName (b ∷ bs) = T (letter b) × All (λ c. T (name_byte c)) bs × (length bs ≤ 15)
+GoodName (b ∷ bs) = T (letter b) × AllByRecursion (λ c. T (name_byte c)) bs × (length bs ≤ 15)
 
 -- bytes that do not go on with a name
 abbrev pub NameEnds : List ℕ → Type 0
@@ -34,7 +34,7 @@ pub record GoodCredential (c : Credential) : Type 0 where
   pub issuer : GoodName c.issuer
   pub name : GoodName c.name
   pub term : GoodName c.term
-  pub terms : All GoodName c.terms
+  pub terms : AllByRecursion GoodName c.terms
   pub few : length c.terms ≤ 3
 
 -- one ground disclosure: the source discloses the credential to the destination
@@ -83,5 +83,5 @@ line_bytes (LineText.ask i) = codes "ask " ++ (item_bytes i ++ codes "\n")
 abbrev pub GoodLine : LineText → Type 0
 GoodLine (LineText.party n) = GoodName n
 GoodLine (LineText.hold i) = GoodItem i
-GoodLine (LineText.rule h b bs) = GoodItem h × GoodItem b × All GoodItem bs
+GoodLine (LineText.rule h b bs) = GoodItem h × GoodItem b × AllByRecursion GoodItem bs
 GoodLine (LineText.ask i) = GoodItem i

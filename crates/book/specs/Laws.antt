@@ -1,7 +1,7 @@
 -- Laws of the grammar: reading an item is the inverse of writing it, places cut the names and items out of the text, and
 -- the byte that ends a line stands nowhere else in it.
 use Rattle.std.specs.Prelude.{◌≡◌, ℕ, ◌+◌, ◌≢◌, ◌↔◌, List, [], ◌∷◌, ◌++◌, length, take, drop, Some, codes}
-use Rattle.std.specs.List.{AllByRecursion as All}
+use Rattle.std.specs.List.{AllByRecursion}
 use Rattle.book.specs.declared.parts.Part.{Part}
 use Rattle.book.specs.declared.parts.ItemParts.{ItemParts}
 use Rattle.book.specs.declared.parts.Line.{Line}
@@ -60,4 +60,4 @@ pub record PlacesLaw : Type 0 where
 
 -- the bytes of a good line are bytes other than 10, and then 10
 abbrev pub LineEndLaw : Type 0
-LineEndLaw = (l : LineText) → GoodLine l → (front : List ℕ) × (line_bytes l ≡ front ++ 10 ∷ []) × All (λ b. b ≢ 10) front
+LineEndLaw = (l : LineText) → GoodLine l → (front : List ℕ) × (line_bytes l ≡ front ++ 10 ∷ []) × AllByRecursion (λ b. b ≢ 10) front

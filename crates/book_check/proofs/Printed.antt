@@ -1,6 +1,6 @@
 -- What is printed from the view of a house is what its book says.
 use Rattle.std.proofs.Common.{◌≡◌, ℕ, ◌+◌, List, [], ◌∷◌, ◌++◌, length, Ok, Err, codes, Result, sym, refl, ap, ◌∙◌, subst}
-use Rattle.std.specs.List.{AllByRecursion as All, flat_map}
+use Rattle.std.specs.List.{AllByRecursion, flat_map}
 use Rattle.house.specs.declared.refusal.Refusal.{Refusal}
 use Rattle.house.specs.View.{View}
 use Rattle.house.specs.Answer.{refusal_of, Answers}
@@ -11,7 +11,7 @@ use Rattle.house.proofs.Registers.{all_of}
 use Rattle.house.proofs.Pushes.{err_ok, err_is}
 use Rattle.book_check.specs.Report.{numbered_line, numbered, party_line, item_line, party_part_line, item_part_line, rule_line, ask_line, listing, view_listing, refusal_line, printed}
 
-numbered-map : {X Y : Type 0} (h : X → Y) (f : ℕ → Y → List ℕ) (g : ℕ → X → List ℕ) (n : ℕ) (xs : List X) → All (λ x. (k : ℕ) → f k (h x) ≡ g k x) xs → numbered f n (each h xs) ≡ numbered g n xs
+numbered-map : {X Y : Type 0} (h : X → Y) (f : ℕ → Y → List ℕ) (g : ℕ → X → List ℕ) (n : ℕ) (xs : List X) → AllByRecursion (λ x. (k : ℕ) → f k (h x) ≡ g k x) xs → numbered f n (each h xs) ≡ numbered g n xs
 numbered-map h f g n [] a = refl
 numbered-map h f g n (x ∷ xs) a = ap (λ l. l ++ numbered f (n + 1) (each h xs)) (a.0 n) ∙ ap (λ l. g n x ++ l) (numbered-map h f g (n + 1) xs a.1)
 

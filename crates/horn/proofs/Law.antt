@@ -1,14 +1,14 @@
 -- The law, from what is computed.
 use Rattle.std.proofs.Common.{◌≡◌, ℕ, zero, suc, ◌<◌, ◌≤◌, Bool, T, ◌⊎◌, ◌↔◌, List, [], ◌∷◌, ◌++◌, length, get_or, sym, refl, ◌∙◌, subst, inl, inr, arith, length-append, length-take, get_or-take}
 use lib.Seq.{take-append_seam, take-append-le, get_or-append_seam}
-use Rattle.std.specs.List.{ContainsAt as Has, AllByRecursion as All}
+use Rattle.std.specs.List.{ContainsAt as Has, AllByRecursion}
 use Rattle.std.proofs.ByRecursion.{all-has, All-weaker, all_has_itself, has_push, has_append_left}
 use Rattle.std.proofs.lemmas.List.{get_or_append_left}
 use Rattle.std.proofs.lemmas.Bool.{cases_lt}
 use Rattle.horn.specs.Horn.{Clause, Follows, Derivation, has, all_in, follow, HornLaw}
 use Rattle.horn.proofs.Rounds.{Least, justified, derives, decided, derivable, has_of_all, inside-rounds}
 
-all_from : {X : Type 0} (P : X → Type 0) (xs : List X) → ((x : X) → Has xs x → P x) → All P xs
+all_from : {X : Type 0} (P : X → Type 0) (xs : List X) → ((x : X) → Has xs x → P x) → AllByRecursion P xs
 all_from P xs f = All-weaker (Has xs) P f xs (all_has_itself xs)
 
 plain : (cs : List Clause) (facts : List ℕ) (d : ℕ) → Least cs facts d ↔ Follows cs facts d
@@ -18,7 +18,7 @@ plain cs facts d = (
 )
   where
     Step : (ℕ → Bool) → Clause → Type 0
-    Step S c = All (λ x. T (S x)) c.body → T (S c.head)
+    Step S c = AllByRecursion (λ x. T (S x)) c.body → T (S c.head)
 
 follows_decided : (cs : List Clause) (facts : List ℕ) (d : ℕ) → T (has (follow cs facts) d) ↔ Follows cs facts d
 follows_decided cs facts d =
@@ -38,7 +38,7 @@ has-forward (y ∷ ys) x t =
 abbrev Stands : List Clause → List ℕ → ℕ → Type 0
 Stands cs before x = (c : Clause) × Has cs c × (c.head ≡ x) × ((y : ℕ) → Has c.body y → Has before y)
 
-body_forward : (xs ys : List ℕ) → T (all_in xs ys) → All (Has (forward xs)) ys
+body_forward : (xs ys : List ℕ) → T (all_in xs ys) → AllByRecursion (Has (forward xs)) ys
 body_forward xs [] t = tt
 body_forward xs (y ∷ ys) t = (has-forward xs y (grind arith), body_forward xs ys (grind arith))
 
@@ -92,7 +92,7 @@ follows_derived cs d = (
 pub follows_all : (P : ℕ → Type 0) (cs : List Clause) (facts : List ℕ) → ((x : ℕ) → Has facts x → P x) → ((c : Clause) → Has cs c → ((x : ℕ) → Has c.body x → P x) → P c.head) → (d : ℕ) → Follows cs facts d → P d
 follows_all P cs facts f g d l =
     has_of_all P (follow cs facts)
-    (inside-rounds (length cs) cs P facts (all_from (λ c. All P c.body → P c.head) cs (λ c m b. g c m (λ x h. all-has P c.body x b h))) (all_from P facts f)) d ((follows_decided cs facts d).1 l)
+    (inside-rounds (length cs) cs P facts (all_from (λ c. AllByRecursion P c.body → P c.head) cs (λ c m b. g c m (λ x h. all-has P c.body x b h))) (all_from P facts f)) d ((follows_decided cs facts d).1 l)
 
 pub horn_law : HornLaw
 horn_law =

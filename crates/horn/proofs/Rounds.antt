@@ -1,14 +1,14 @@
 -- What is computed is closed and stays inside every closed set; and derivations, latest first.
 use Rattle.std.proofs.Common.{◌≡◌, ℕ, zero, suc, ◌+◌, ◌<◌, ◌≤◌, Bool, true, false, cond, ◌&&◌, ◌||◌, T, eqb, ◌⊎◌, ◌↔◌, List, [], ◌∷◌, length, refl, inl, inr, arith}
-use Rattle.std.specs.List.{AllByRecursion as All}
+use Rattle.std.specs.List.{AllByRecursion}
 use Rattle.horn.specs.Horn.{Clause, has, all_in, add, pass, rounds, follow}
 
 -- the head of each clause has the property if the whole body has it
 abbrev pub Closes : List Clause → (ℕ → Type 0) → Type 0
-Closes cs P = All (λ c. All P c.body → P c.head) cs
+Closes cs P = AllByRecursion (λ c. AllByRecursion P c.body → P c.head) cs
 
 abbrev pub Least : List Clause → List ℕ → ℕ → Type 0
-Least cs facts d = (S : ℕ → Bool) → All (λ x. T (S x)) facts → Closes cs (λ x. T (S x)) → T (S d)
+Least cs facts d = (S : ℕ → Bool) → AllByRecursion (λ x. T (S x)) facts → Closes cs (λ x. T (S x)) → T (S d)
 
 -- x is the head of a clause whose body stands in the list
 abbrev pub justified : List Clause → List ℕ → ℕ → Bool
@@ -26,19 +26,19 @@ derives cs (x ∷ xs) = let r = derives cs xs in justified cs xs x && r
 abbrev In : List ℕ → ℕ → Type 0
 In s x = T (has s x)
 
-pub has_of_all : (P : ℕ → Type 0) (s : List ℕ) → All P s → (x : ℕ) → T (has s x) → P x
+pub has_of_all : (P : ℕ → Type 0) (s : List ℕ) → AllByRecursion P s → (x : ℕ) → T (has s x) → P x
 has_of_all P [] a x t = absurd t
 has_of_all P (y ∷ ys) a x t = let ih = has_of_all P ys a.1 x in grind arith
 
-all_of_has : (P : ℕ → Type 0) (s : List ℕ) → ((x : ℕ) → T (has s x) → P x) → All P s
+all_of_has : (P : ℕ → Type 0) (s : List ℕ) → ((x : ℕ) → T (has s x) → P x) → AllByRecursion P s
 all_of_has P [] f = tt
 all_of_has P (y ∷ ys) f = (f y (grind arith), all_of_has P ys (λ x t. f x (grind arith)))
 
-body_inside : (P : ℕ → Type 0) (s xs : List ℕ) → All P s → T (all_in s xs) → All P xs
+body_inside : (P : ℕ → Type 0) (s xs : List ℕ) → AllByRecursion P s → T (all_in s xs) → AllByRecursion P xs
 body_inside P s [] a t = tt
 body_inside P s (x ∷ xs) a t = (has_of_all P s a x (grind arith), body_inside P s xs a (grind arith))
 
-all_in_of_all : (s xs : List ℕ) → All (In s) xs → T (all_in s xs)
+all_in_of_all : (s xs : List ℕ) → AllByRecursion (In s) xs → T (all_in s xs)
 all_in_of_all s [] a = tt
 all_in_of_all s (x ∷ xs) a = let ih = all_in_of_all s xs a.1 in grind arith
 
@@ -56,11 +56,11 @@ grow_rounds zero cs s x t = t
 grow_rounds (suc k) cs s x t = let ih = grow_rounds k cs (pass cs s) x (grow cs s x t) in grind arith
 
 -- a pass stays inside each closed set
-inside : (cs : List Clause) (P : ℕ → Type 0) (s : List ℕ) → Closes cs P → All P s → All P (pass cs s)
+inside : (cs : List Clause) (P : ℕ → Type 0) (s : List ℕ) → Closes cs P → AllByRecursion P s → AllByRecursion P (pass cs s)
 inside [] P s f a = a
 inside (c ∷ cs) P s f a = inside cs P (add c s) f.1 (let b = body_inside P s c.body a in grind arith)
 
-pub inside-rounds : (k : ℕ) (cs : List Clause) (P : ℕ → Type 0) (s : List ℕ) → Closes cs P → All P s → All P (rounds k cs s)
+pub inside-rounds : (k : ℕ) (cs : List Clause) (P : ℕ → Type 0) (s : List ℕ) → Closes cs P → AllByRecursion P s → AllByRecursion P (rounds k cs s)
 inside-rounds zero cs P s f a = a
 inside-rounds (suc k) cs P s f a = let ih = inside-rounds k cs P (pass cs s) f (inside cs P s f a) in grind arith
 
@@ -122,15 +122,15 @@ decided cs facts d =
 abbrev Backs : List Clause → Clause → Type 0
 Backs cs c = (xs : List ℕ) → T (all_in xs c.body) → T (justified cs xs c.head)
 
-backs_more : (c : Clause) (cs ds : List Clause) → All (Backs cs) ds → All (Backs (c ∷ cs)) ds
+backs_more : (c : Clause) (cs ds : List Clause) → AllByRecursion (Backs cs) ds → AllByRecursion (Backs (c ∷ cs)) ds
 backs_more c cs [] a = tt
 backs_more c cs (d ∷ ds) a = ((λ xs t. let b = a.0 xs t in grind arith), backs_more c cs ds a.1)
 
-backs : (cs : List Clause) → All (Backs cs) cs
+backs : (cs : List Clause) → AllByRecursion (Backs cs) cs
 backs [] = tt
 backs (c ∷ cs) = ((λ xs t. grind arith), backs_more c cs cs (backs cs))
 
-derives-pass : (cs ds : List Clause) (s : List ℕ) → All (Backs cs) ds → T (derives cs s) → T (derives cs (pass ds s))
+derives-pass : (cs ds : List Clause) (s : List ℕ) → AllByRecursion (Backs cs) ds → T (derives cs s) → T (derives cs (pass ds s))
 derives-pass cs [] s a t = t
 derives-pass cs (d ∷ ds) s a t = derives-pass cs ds (add d s) a.1 (let b = a.0 s in grind arith)
 
@@ -144,14 +144,14 @@ cut cs (y ∷ ys) d t h =
     let e : (y ≡ d) ⊎ T (has ys d) = grind arith in
     elim e [ inl p ↦ (ys, rw (← p) t) | inr g ↦ cut cs ys d (grind arith) g ]
 
-justified-inside : (cs : List Clause) (P : ℕ → Type 0) (xs : List ℕ) (x : ℕ) → Closes cs P → All P xs → T (justified cs xs x) → P x
+justified-inside : (cs : List Clause) (P : ℕ → Type 0) (xs : List ℕ) (x : ℕ) → Closes cs P → AllByRecursion P xs → T (justified cs xs x) → P x
 justified-inside [] P xs x f a t = absurd t
 justified-inside (c ∷ cs) P xs x f a t =
     let b = body_inside P xs c.body a in
     let ih = justified-inside cs P xs x f.1 a in
     grind arith
 
-derives-inside : (cs : List Clause) (P : ℕ → Type 0) (s : List ℕ) → Closes cs P → T (derives cs s) → All P s
+derives-inside : (cs : List Clause) (P : ℕ → Type 0) (s : List ℕ) → Closes cs P → T (derives cs s) → AllByRecursion P s
 derives-inside cs P [] f t = tt
 derives-inside cs P (x ∷ xs) f t =
     let a = derives-inside cs P xs f (grind arith) in

@@ -1,7 +1,7 @@
 -- How long the register gets does not hang on the places of the writings.
 use Rattle.std.proofs.Common.{◌≡◌, ℕ, ◌+◌, Bool, true, false, cond, List, [], ◌∷◌, ◌++◌, map, length, sym, refl, ap, ◌∙◌}
 use lib.ListN.{length-map}
-use Rattle.std.specs.List.{AllByRecursion as All}
+use Rattle.std.specs.List.{AllByRecursion}
 use Rattle.std.proofs.lemmas.List.{map_push}
 use Rattle.book.specs.Grammar.{ItemText}
 use Rattle.book.specs.Places.{item_size}
@@ -21,7 +21,7 @@ abbrev put_all : List ItemText → List ItemText → List ItemText
 put_all is [] = is
 put_all is (j ∷ js) = put_all (put is j) js
 
-all_refl : (i : ItemText) (xs : List Written) → All (λ x. same_text i (item_of x) ≡ same_item i x) xs
+all_refl : (i : ItemText) (xs : List Written) → AllByRecursion (λ x. same_text i (item_of x) ≡ same_item i x) xs
 all_refl i [] = tt
 all_refl i (x ∷ xs) = (refl, all_refl i xs)
 

@@ -1,6 +1,6 @@
 -- A line is added by its form.
 use Rattle.std.proofs.Common.{◌≡◌, ℕ, ◌+◌, List, [], ◌∷◌, length, Result, sym, refl, ap, subst, arith}
-use Rattle.std.specs.List.{AllByRecursion as All}
+use Rattle.std.specs.List.{AllByRecursion}
 use Rattle.book.specs.declared.fault.Fault.{Fault}
 use Rattle.book.specs.declared.parts.Part.{Part}
 use Rattle.book.specs.declared.parts.ItemParts.{ItemParts}
@@ -67,5 +67,5 @@ module _ (text : List ℕ) (t : Tables) (v : Policies) (place : ℕ) (f : Filled
   by_rule head first count r (LineText.rule h b bs) a e =
       let p : first ≡ place + 5 + item_size h + 4 = ap (λ x. (body_to_read x).place) e in
       let c : count ≡ 1 + length bs = ap (λ x. (body_to_read x).count) e in
-      r v place h (b ∷ bs) f a (ap (item_of head) e) (record { stand = subst (λ x. All (ItemAt text) (written_from x (b ∷ bs))) (sym p) (line_body text place h (b ∷ bs) a); counted = let z = c in omega arith }) (ap (λ x. written_from x (b ∷ bs)) p)
+      r v place h (b ∷ bs) f a (ap (item_of head) e) (record { stand = subst (λ x. AllByRecursion (ItemAt text) (written_from x (b ∷ bs))) (sym p) (line_body text place h (b ∷ bs) a); counted = let z = c in omega arith }) (ap (λ x. written_from x (b ∷ bs)) p)
   by_rule head first count r (LineText.ask i) a e = other 2 3 (ap form e) (λ x. omega arith)

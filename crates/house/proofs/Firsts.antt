@@ -1,6 +1,6 @@
 -- The first element that passes a test.
 use Rattle.std.proofs.Common.{◌≡◌, ℕ, zero, suc, ◌+◌, ◌<◌, ◌≤◌, Bool, true, false, cond, ◌||◌, List, [], ◌∷◌, ◌++◌, map, length, get_or, take, Some, None, sym, refl, ap, ◌∙◌, subst, arith}
-use Rattle.std.specs.List.{AllByRecursion as All}
+use Rattle.std.specs.List.{AllByRecursion}
 use Rattle.house.specs.Policies.{any, first_of}
 use Rattle.house.specs.Filling.{found_in}
 
@@ -82,13 +82,13 @@ module _ {X : Type 0} (p : X → Bool) (xs ys : List X) (e : ys ≡ xs) (i : ℕ
   loop_none l = sym (found_none p xs i (subst (λ z. length z ≤ i) e l) n)
 
 module _ {X Y : Type 0} (f : X → Y) (p : Y → Bool) (q : X → Bool) where
-  pub any-map : (xs : List X) → All (λ x. p (f x) ≡ q x) xs → any p (map f xs) ≡ any q xs
+  pub any-map : (xs : List X) → AllByRecursion (λ x. p (f x) ≡ q x) xs → any p (map f xs) ≡ any q xs
   any-map [] a = refl
   any-map (x ∷ xs) a = let r = any-map xs a.1 in let e = a.0 in grind arith
 
-  pub first-map : (xs : List X) → All (λ x. p (f x) ≡ q x) xs → first_of p (map f xs) ≡ first_of q xs
+  pub first-map : (xs : List X) → AllByRecursion (λ x. p (f x) ≡ q x) xs → first_of p (map f xs) ≡ first_of q xs
   first-map [] a = refl
   first-map (x ∷ xs) a = let r = first-map xs a.1 in let e = a.0 in grind arith
 
-  pub found_map : (xs : List X) → All (λ x. p (f x) ≡ q x) xs → found_in p (map f xs) ≡ found_in q xs
+  pub found_map : (xs : List X) → AllByRecursion (λ x. p (f x) ≡ q x) xs → found_in p (map f xs) ≡ found_in q xs
   found_map xs a = let r = any-map xs a in let s = first-map xs a in grind arith

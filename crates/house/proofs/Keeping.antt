@@ -1,7 +1,7 @@
 -- Policies that are read without a fault stay so, and the view of their house is sound.
 use Rattle.std.proofs.Common.{◌≡◌, ℕ, ◌+◌, ◌<◌, ◌≤◌, Bool, true, false, cond, not, ◌&&◌, ◌||◌, eqb, ltb, leb, List, [], ◌∷◌, ◌++◌, map, length, get_or, Some, None, codes, Option, sym, refl, ap, ◌∙◌, subst, inl, inr, arith, length-append}
 use lib.ListN.{length-map}
-use Rattle.std.specs.List.{AllByRecursion as All}
+use Rattle.std.specs.List.{AllByRecursion}
 use Rattle.std.proofs.lemmas.List.{get_or-map, get_or_append_left}
 use Rattle.std.proofs.ByRecursion.{All-push}
 use Rattle.book.specs.Grammar.{Name, credential_bytes, ItemText}
@@ -31,7 +31,7 @@ every_push : {X : Type 0} (p : X → Bool) (xs : List X) (x : X) → every p xs 
 every_push p [] x h e = grind arith
 every_push p (y ∷ ys) x h e = let s = both (p y) (every p ys) h in let a = s.0 in let r = every_push p ys x s.1 e in grind arith
 
-every_map : {X Y : Type 0} (f : X → Y) (p : Y → Bool) (xs : List X) → All (λ x. p (f x) ≡ true) xs → every p (map f xs) ≡ true
+every_map : {X Y : Type 0} (f : X → Y) (p : Y → Bool) (xs : List X) → AllByRecursion (λ x. p (f x) ≡ true) xs → every p (map f xs) ≡ true
 every_map f p [] a = refl
 every_map f p (x ∷ xs) a = let h = a.0 in let r = every_map f p xs a.1 in grind arith
 
@@ -131,7 +131,7 @@ module _ (v : Policies) where
           | inr e ↦ let s = f.1 ∙ ap (λ x. first_of (named x) v.parties) (same_is _ _ e) ∙ sym o in grind arith
         ]
 
-    bodies_ok : (bs : List ItemText) → All (λ b. any (same_item b) v.items ≡ true) bs → any (λ i. not (same i.source h.source || same i.destination h.source)) bs ≡ false →
+    bodies_ok : (bs : List ItemText) → AllByRecursion (λ b. any (same_item b) v.items ≡ true) bs → any (λ i. not (same i.source h.source || same i.destination h.source)) bs ≡ false →
         every (body_sound (map (entry v) v.items) owner) (numbers v.items bs) ≡ true
     bodies_ok [] a c = refl
     bodies_ok (b ∷ bs) a c =
@@ -147,7 +147,7 @@ module _ (v : Policies) where
         go true x y = x
         go false x y = y
 
-    pub rule_ok : (bs : List ItemText) → All (λ b. any (same_item b) v.items ≡ true) bs → any (λ i. not (same i.source h.source || same i.destination h.source)) bs ≡ false →
+    pub rule_ok : (bs : List ItemText) → AllByRecursion (λ b. any (same_item b) v.items ≡ true) bs → any (λ i. not (same i.source h.source || same i.destination h.source)) bs ≡ false →
         rule_sound (map (entry v) v.items) (record { head = number v.items h; body = once [] (numbers v.items bs) }) ≡ true
     rule_ok bs a c =
         let l = number_below h hh in
@@ -175,7 +175,7 @@ le_leb m n h = grind arith
 five : (a b c d e : Bool) → a ≡ true → b ≡ true → c ≡ true → d ≡ true → e ≡ true → (a && (b && (c && (d && e)))) ≡ true
 five a b c d e p q r s t = grind arith
 
-all_both : {X : Type 0} (P Q : X → Type 0) (xs : List X) → All P xs → All Q xs → All (λ x. P x × Q x) xs
+all_both : {X : Type 0} (P Q : X → Type 0) (xs : List X) → AllByRecursion P xs → AllByRecursion Q xs → AllByRecursion (λ x. P x × Q x) xs
 all_both P Q [] a b = tt
 all_both P Q (x ∷ xs) a b = ((a.0, b.0), all_both P Q xs a.1 b.1)
 

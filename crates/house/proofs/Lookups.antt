@@ -1,6 +1,6 @@
 -- Lookups in tables that hold policies find what the policies say.
 use Rattle.std.proofs.Common.{◌≡◌, ℕ, Bool, false, ◌&&◌, List, Some, None, ap, ◌∙◌}
-use Rattle.std.specs.List.{AllByRecursion as All}
+use Rattle.std.specs.List.{AllByRecursion}
 use Rattle.table.specs.Held.{held}
 use Rattle.book.specs.declared.parts.Part.{Part}
 use Rattle.book.specs.declared.parts.ItemParts.{ItemParts}
@@ -45,7 +45,7 @@ module _ (text : List ℕ) where
         ∙ same_cut (item_parts u.place u.item).credential (item_parts w.place w.item).credential _ _ (item_cut text u b).credential (item_cut text w a).credential
 
   module _ (t : Tables) (v : Policies) (f : Filled text t v) where
-    named-alike : (p : Part) (n : Name) → cut_out text p ≡ n → All (λ e. alike text (party_part e) p ≡ named n e) v.parties
+    named-alike : (p : Part) (n : Name) → cut_out text p ≡ n → AllByRecursion (λ e. alike text (party_part e) p ≡ named n e) v.parties
     named-alike p n c = all_of (λ e a. same_cut (party_part e) p e.name n (name_cut text e a) c) v.parties f.kept.names
 
     pub found_party : (p : Part) (n : Name) → cut_out text p ≡ n → found_in (λ q. alike text q p) (held t.parties) ≡ found_in (named n) v.parties

@@ -1,6 +1,6 @@
 -- Books that are read enrol and register nothing twice.
 use Rattle.std.proofs.Common.{◌≡◌, ℕ, zero, suc, ◌+◌, ◌<◌, Bool, true, false, cond, eqb, List, [], ◌∷◌, ◌++◌, length, get_or, None, sym, refl, ap, ◌∙◌, subst, inl, inr, arith, length-append}
-use Rattle.std.specs.List.{AllByRecursion as All}
+use Rattle.std.specs.List.{AllByRecursion}
 use Rattle.std.proofs.lemmas.List.{get_or_append_left, get_or-append-add}
 use Rattle.std.proofs.ByRecursion.{All-push, All-get_or}
 use Rattle.std.proofs.lemmas.Bool.{cases_lt}
@@ -70,13 +70,13 @@ once_of xs a i j d l m e = let h = a i j d l m in absurd (let f : ⊥ = grind ar
 pub record Sorted (v : Policies) : Type 0 where
   pub parties : Apart like_party v.parties
   pub items : Apart like_written v.items
-  pub bodies : All (λ r. Once r.body) v.rules
-  pub ends : All (Ends v) v.items
+  pub bodies : AllByRecursion (λ r. Once r.body) v.rules
+  pub ends : AllByRecursion (Ends v) v.items
 
 no_fault : (v : Policies) (l : LineText) → fault_of v l ≡ None → (g : Fault) → has v l g ≡ false
 no_fault v l e = subst (Smallest (has v l)) e (smallest_fault v l)
 
-written_ends : (v : Policies) (place : ℕ) (is : List ItemText) → All (λ i. (enrolled v i.source ≡ true) × (enrolled v i.destination ≡ true)) is → All (Ends v) (written_from place is)
+written_ends : (v : Policies) (place : ℕ) (is : List ItemText) → AllByRecursion (λ i. (enrolled v i.source ≡ true) × (enrolled v i.destination ≡ true)) is → AllByRecursion (Ends v) (written_from place is)
 written_ends v place [] a = tt
 written_ends v place (i ∷ is) a = (a.0, written_ends v (place + item_size i + 5) is a.1)
 

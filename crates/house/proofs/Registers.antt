@@ -1,6 +1,6 @@
 -- The entries of the register as parties and items are added.
 use Rattle.std.proofs.Common.{◌≡◌, ◌≤◌, Bool, true, false, cond, List, [], ◌∷◌, ◌++◌, map, length, sym, refl, ap, ◌∙◌, subst, append_assoc, append-nil, arith, length-append}
-use Rattle.std.specs.List.{AllByRecursion as All}
+use Rattle.std.specs.List.{AllByRecursion}
 use Rattle.std.proofs.lemmas.List.{map_push}
 use Rattle.book.specs.Grammar.{credential_bytes, ItemText}
 use Rattle.house.specs.Policies.{Enrolled, Written, Policies, any, first_of, named, same_credential, same_item, number, register, register_all, enrolled}
@@ -10,11 +10,11 @@ use Rattle.house.proofs.Firsts.{any-more, first-append, first_new}
 use Rattle.house.proofs.Cuts.{same_refl}
 
 -- two functions that agree on a list
-pub map_agree : {X Y : Type 0} (f g : X → Y) (xs : List X) → All (λ x. f x ≡ g x) xs → map f xs ≡ map g xs
+pub map_agree : {X Y : Type 0} (f g : X → Y) (xs : List X) → AllByRecursion (λ x. f x ≡ g x) xs → map f xs ≡ map g xs
 map_agree f g [] a = refl
 map_agree f g (x ∷ xs) a = ap (λ y. y ∷ map f xs) a.0 ∙ ap (λ ys. g x ∷ ys) (map_agree f g xs a.1)
 
-pub all_of : {X : Type 0} {P Q : X → Type 0} → ((x : X) → P x → Q x) → (xs : List X) → All P xs → All Q xs
+pub all_of : {X : Type 0} {P Q : X → Type 0} → ((x : X) → P x → Q x) → (xs : List X) → AllByRecursion P xs → AllByRecursion Q xs
 all_of f [] a = tt
 all_of f (x ∷ xs) a = (f x a.0, all_of f xs a.1)
 
@@ -32,7 +32,7 @@ module _ (v : Policies) (e : Enrolled) where
   still_ends : (w : Written) → Ends v w → Ends (with_party v e) w
   still_ends w h = (any-more _ v.parties (e ∷ []) h.0, any-more _ v.parties (e ∷ []) h.1)
 
-  pub ends_party : All (Ends v) v.items → All (Ends (with_party v e)) v.items
+  pub ends_party : AllByRecursion (Ends v) v.items → AllByRecursion (Ends (with_party v e)) v.items
   ends_party a = all_of still_ends v.items a
 
   entry_party : (w : Written) → Ends v w → entry v w ≡ entry (with_party v e) w
@@ -43,22 +43,22 @@ module _ (v : Policies) (e : Enrolled) where
       ∙ ap (λ n. record { source = first_of (named w.item.source) (v.parties ++ e ∷ []); destination = n; credential = first_of (credential_of w.item) v.items; part = item_part w }) (sym d)
 
   -- a new party changes no entry
-  pub entries_party : All (Ends v) v.items → map (entry v) v.items ≡ map (entry (with_party v e)) v.items
+  pub entries_party : AllByRecursion (Ends v) v.items → map (entry v) v.items ≡ map (entry (with_party v e)) v.items
   entries_party a = map_agree (entry v) (entry (with_party v e)) v.items (all_of entry_party v.items a)
 
 -- each item's credential is that of a registered item
 pub self_credential : (w : Written) → credential_of w.item w ≡ true
 self_credential w = same_refl (credential_bytes w.item.credential)
 
-has-credential : (front items : List Written) → All (λ w. any (credential_of w.item) (front ++ items) ≡ true) items
+has-credential : (front items : List Written) → AllByRecursion (λ w. any (credential_of w.item) (front ++ items) ≡ true) items
 has-credential front [] = tt
-has-credential front (w ∷ ws) = (here front, subst (λ l. All (λ u. any (credential_of u.item) l ≡ true) ws) (append_assoc front (w ∷ []) ws) (has-credential (front ++ w ∷ []) ws))
+has-credential front (w ∷ ws) = (here front, subst (λ l. AllByRecursion (λ u. any (credential_of u.item) l ≡ true) ws) (append_assoc front (w ∷ []) ws) (has-credential (front ++ w ∷ []) ws))
   where
     here : (xs : List Written) → any (credential_of w.item) (xs ++ w ∷ ws) ≡ true
     here [] = let s = self_credential w in grind arith
     here (x ∷ xs) = let r = here xs in grind arith
 
-pub credentials : (items : List Written) → All (λ w. any (credential_of w.item) items ≡ true) items
+pub credentials : (items : List Written) → AllByRecursion (λ w. any (credential_of w.item) items ≡ true) items
 credentials items = has-credential [] items
 
 module _ (v : Policies) (w : Written) where

@@ -1,6 +1,6 @@
 -- A line with a head and a body: its items are registered one after the other, then the rule is added.
 use Rattle.std.proofs.Common.{◌≡◌, ℕ, ◌+◌, ◌<◌, ◌≤◌, Bool, true, false, cond, eqb, List, [], ◌∷◌, ◌++◌, length, Some, None, Ok, Err, Result, sym, refl, ap, ◌∙◌, subst, arith, length-append}
-use Rattle.std.specs.List.{AllByRecursion as All}
+use Rattle.std.specs.List.{AllByRecursion}
 use Rattle.table.specs.Held.{held}
 use Rattle.book.specs.declared.fault.Fault.{Fault}
 use Rattle.book.specs.declared.fault.Fault.TheVariants.{OneLetter, EnrolledBefore, NotEnrolled, Strange, TooMany, SecondAsk}
@@ -36,20 +36,20 @@ module _ (t : Fault → Bool) where
       go true e r = grind arith
       go false e r = r e
 
-  none_first : (xs : List Fault) → Ok tt ≡ as_fault (first_true t xs) → All (λ x. t x ≡ false) xs
+  none_first : (xs : List Fault) → Ok tt ≡ as_fault (first_true t xs) → AllByRecursion (λ x. t x ≡ false) xs
   none_first [] e = tt
   none_first (x ∷ xs) e = go (t x) refl e (none_first xs)
     where
-      go : (b : Bool) → t x ≡ b → Ok tt ≡ as_fault (cond b (Some x) (first_true t xs)) → (Ok tt ≡ as_fault (first_true t xs) → All (λ y. t y ≡ false) xs) → (t x ≡ false) × All (λ y. t y ≡ false) xs
+      go : (b : Bool) → t x ≡ b → Ok tt ≡ as_fault (cond b (Some x) (first_true t xs)) → (Ok tt ≡ as_fault (first_true t xs) → AllByRecursion (λ y. t y ≡ false) xs) → (t x ≡ false) × AllByRecursion (λ y. t y ≡ false) xs
       go true h e r = err_ok tt x e
       go false h e r = (h, r e)
 
 -- each item is in the register then
-registers_have : (items ws : List Written) → All (λ w. any (same_item w.item) (register_all items ws) ≡ true) ws
+registers_have : (items ws : List Written) → AllByRecursion (λ w. any (same_item w.item) (register_all items ws) ≡ true) ws
 registers_have items [] = tt
 registers_have items (w ∷ ws) = ((number_stays (register items w) ws w.item (registered items w)).1, registers_have (register items w) ws)
 
-of_written : (P : ItemText → Type 0) (place : ℕ) (is : List ItemText) → All (λ w. P w.item) (written_from place is) → All P is
+of_written : (P : ItemText → Type 0) (place : ℕ) (is : List ItemText) → AllByRecursion (λ w. P w.item) (written_from place is) → AllByRecursion P is
 of_written P place [] a = tt
 of_written P place (i ∷ is) a = (a.0, of_written P (place + item_size i + 5) is a.1)
 
@@ -65,7 +65,7 @@ second_ask_lem : (v : Policies) (h : ItemText) (items : List ItemText) → secon
 second_ask_lem v h [] = refl
 second_ask_lem v h (b ∷ bs) = refl
 
-pub none_unknown : (v : Policies) (is : List ItemText) → any (unknown v) is ≡ false → All (λ i. (enrolled v i.source ≡ true) × (enrolled v i.destination ≡ true)) is
+pub none_unknown : (v : Policies) (is : List ItemText) → any (unknown v) is ≡ false → AllByRecursion (λ i. (enrolled v i.source ≡ true) × (enrolled v i.destination ≡ true)) is
 none_unknown v [] h = tt
 none_unknown v (i ∷ is) h = ((grind arith, grind arith), none_unknown v is (grind arith))
 
@@ -83,7 +83,7 @@ pub record Building (text : List ℕ) (v : Policies) (place : ℕ) (h : ItemText
   pub regs : List Written
   pub at : BodyAt text left more
   pub filled : Filled text t (with_items v regs)
-  pub ends : All (λ i. (enrolled v i.source ≡ true) × (enrolled v i.destination ≡ true)) more
+  pub ends : AllByRecursion (λ i. (enrolled v i.source ≡ true) × (enrolled v i.destination ≡ true)) more
   pub to_come : register_all regs (written_from left.place more) ≡ final v place h items
   pub head_is : rule.head ≡ number (final v place h items) h
   pub body_is : once (held rule.body) (numbers (final v place h items) more) ≡ once [] (numbers (final v place h items) items)
@@ -119,8 +119,8 @@ module _ (text : List ℕ) (v : Policies) (place : ℕ) (h : ItemText) (items : 
     at_next : BodyAt text left (next ∷ rest)
     at_next = subst (BodyAt text left) is_next s.at
 
-    next_ends : All (λ i. (enrolled v i.source ≡ true) × (enrolled v i.destination ≡ true)) (next ∷ rest)
-    next_ends = subst (All (λ i. (enrolled v i.source ≡ true) × (enrolled v i.destination ≡ true))) is_next s.ends
+    next_ends : AllByRecursion (λ i. (enrolled v i.source ≡ true) × (enrolled v i.destination ≡ true)) (next ∷ rest)
+    next_ends = subst (AllByRecursion (λ i. (enrolled v i.source ≡ true) × (enrolled v i.destination ≡ true))) is_next s.ends
 
     next-registered : Registered text (with_items v s.regs) written answer t2
     next-registered = r (with_items v s.regs) written s.filled (some_is (n.1 next rest at_next).0) at_next.stand.0 next_ends.0.0 next_ends.0.1
@@ -189,10 +189,10 @@ module _ (text : List ℕ) (before : Tables) (head : ItemParts) (body : Body) wh
     names_at_fault after g j = adds_fault v line text place after g (fault_first (has v line) four (TooMany ∷ SecondAsk ∷ []) g (j v first items f there e b))
 
     module _ (j : Judges text before head body (Ok tt)) where
-      clear : All (λ x. has v line x ≡ false) four
+      clear : AllByRecursion (λ x. has v line x ≡ false) four
       clear = none_first (has v line) four (j v first items f there e b)
 
-      known : All (λ i. (enrolled v i.source ≡ true) × (enrolled v i.destination ≡ true)) (h ∷ items)
+      known : AllByRecursion (λ i. (enrolled v i.source ≡ true) × (enrolled v i.destination ≡ true)) (h ∷ items)
       known = none_unknown v (h ∷ items) (sym (rule-unknown v h items) ∙ clear.1.1.0)
 
       many : (after : Tables) → too_many v line ≡ true → Adds text v place line (Err TooMany) after

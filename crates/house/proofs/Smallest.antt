@@ -1,6 +1,6 @@
 -- The first true test, in the order of the numbers, is that of the smallest fault.
 use Rattle.std.proofs.Common.{◌≡◌, ◌≤◌, Bool, true, false, cond, ◌⊎◌, List, [], ◌∷◌, Some, sym, refl, ap, ◌∙◌, subst, inl, inr, arith}
-use Rattle.std.specs.List.{AllByRecursion as All}
+use Rattle.std.specs.List.{AllByRecursion}
 use Rattle.book.specs.declared.fault.Fault.{Fault}
 use Rattle.book.specs.declared.fault.Fault.TheVariants.{TooLong, NoForm, OneLetter, EnrolledBefore, NotEnrolled, Strange, TooMany, SecondAsk}
 use Rattle.book.specs.Faults.{fault_number}
@@ -14,7 +14,7 @@ In g (f ∷ fs) = (g ≡ f) ⊎ In g fs
 
 abbrev Rising : List Fault → Type 0
 Rising [] = Unit {0}
-Rising (f ∷ fs) = All (λ g. fault_number f ≤ fault_number g) fs × Rising fs
+Rising (f ∷ fs) = AllByRecursion (λ g. fault_number f ≤ fault_number g) fs × Rising fs
 
 contrary : {P : Type 0} → false ≡ true → P
 contrary e = absurd (let f : ⊥ = grind arith in f)
@@ -23,13 +23,13 @@ not_true : (b : Bool) → ((b ≡ true) → ⊥) → b ≡ false
 not_true true n = absurd (n refl)
 not_true false n = refl
 
-at_least : (f g : Fault) (fs : List Fault) → All (λ h. fault_number f ≤ fault_number h) fs → In g fs → fault_number f ≤ fault_number g
+at_least : (f g : Fault) (fs : List Fault) → AllByRecursion (λ h. fault_number f ≤ fault_number h) fs → In g fs → fault_number f ≤ fault_number g
 at_least f g [] a i = absurd i
 at_least f g (h ∷ hs) a (inl e) = subst (λ x. fault_number f ≤ fault_number x) (sym e) a.0
 at_least f g (h ∷ hs) a (inr i) = at_least f g hs a.1 i
 
 module _ (t : Fault → Bool) where
-  least : (f : Fault) (fs : List Fault) → All (λ g. fault_number f ≤ fault_number g) fs → (g : Fault) → In g (f ∷ fs) → fault_number f ≤ fault_number g
+  least : (f : Fault) (fs : List Fault) → AllByRecursion (λ g. fault_number f ≤ fault_number g) fs → (g : Fault) → In g (f ∷ fs) → fault_number f ≤ fault_number g
   least f fs a g (inl e) = subst (λ x. fault_number f ≤ fault_number x) (sym e) (omega arith)
   least f fs a g (inr i) = at_least f g fs a i
 

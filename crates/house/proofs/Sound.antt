@@ -1,6 +1,6 @@
 -- The test of the type's invariant decides what is promised of every house.
 use Rattle.std.proofs.Common.{◌≡◌, ℕ, ◌<◌, Bool, true, false, ◌&&◌, ◌||◌, eqb, ltb, ◌⊎◌, List, [], ◌∷◌, length, get_or, Some, None, Option, refl, inl, inr, arith}
-use Rattle.std.specs.List.{AllByRecursion as All}
+use Rattle.std.specs.List.{AllByRecursion}
 use Rattle.book.specs.declared.parts.Part.{Part}
 use Rattle.house.specs.declared.entries.Item.{Item}
 use Rattle.house.specs.View.{RuleView, View}
@@ -15,7 +15,7 @@ pub either : (a b : Bool) → (a || b) ≡ true → (a ≡ true) ⊎ (b ≡ true
 either true b h = inl refl
 either false b h = inr h
 
-all_of : {X : Type 0} {P : X → Type 0} (p : X → Bool) → ((x : X) → p x ≡ true → P x) → (xs : List X) → every p xs ≡ true → All P xs
+all_of : {X : Type 0} {P : X → Type 0} (p : X → Bool) → ((x : X) → p x ≡ true → P x) → (xs : List X) → every p xs ≡ true → AllByRecursion P xs
 all_of p f [] h = tt
 all_of p f (x ∷ xs) h = let s = both (p x) (every p xs) h in (f x s.0, all_of p f xs s.1)
 

@@ -1,6 +1,6 @@
 -- Where names, items and lines stand in the text, and what is read there.
 use Rattle.std.proofs.Common.{◌≡◌, ℕ, ◌+◌, ◌<◌, ◌≤◌, min, List, [], ◌∷◌, ◌++◌, length, drop, Some, None, codes, sym, refl, ap, ◌∙◌, subst, append_assoc, arith, length-append}
-use Rattle.std.specs.List.{AllByRecursion as All}
+use Rattle.std.specs.List.{AllByRecursion}
 use Rattle.std.proofs.lemmas.List.{drop_at}
 use Rattle.book.specs.Grammar.{Name, NameEnds, ItemText, GoodItem, item_bytes, more_items, LineText}
 use Rattle.book.specs.Reading.{item_in}
@@ -80,7 +80,7 @@ module _ (text : List ℕ) where
   body_ends [] behind = refl
   body_ends (c ∷ cs) behind = refl
 
-  body_items : (place : ℕ) (b : ItemText) (bs : List ItemText) (behind : List ℕ) → StandsAt text place (item_bytes b ++ (more_items bs ++ codes "\n")) behind → GoodItem b → All GoodItem bs → All (ItemAt text) (written_from place (b ∷ bs))
+  body_items : (place : ℕ) (b : ItemText) (bs : List ItemText) (behind : List ℕ) → StandsAt text place (item_bytes b ++ (more_items bs ++ codes "\n")) behind → GoodItem b → AllByRecursion GoodItem bs → AllByRecursion (ItemAt text) (written_from place (b ∷ bs))
   body_items place b [] behind s g gs = (item_front place b (codes "\n") behind s g refl, tt)
   body_items place b (c ∷ cs) behind s g gs =
       let more = more_items (c ∷ cs) ++ codes "\n" in
@@ -89,7 +89,7 @@ module _ (text : List ℕ) where
       let u = next_part (place + item_size b) (codes " and ") (item_bytes c ++ (more_items cs ++ codes "\n")) behind (subst (λ x. StandsAt text (place + item_size b) x behind) e t) in
       (item_front place b more behind s g (body_ends (c ∷ cs) behind), body_items (place + item_size b + 5) c cs behind u gs.0 gs.1)
 
-  pub line_body : (place : ℕ) (h : ItemText) (items : List ItemText) → LineAt text place (headed_line h items) → All (ItemAt text) (written_from (place + 5 + item_size h + 4) items)
+  pub line_body : (place : ℕ) (h : ItemText) (items : List ItemText) → LineAt text place (headed_line h items) → AllByRecursion (ItemAt text) (written_from (place + 5 + item_size h + 4) items)
   line_body place h [] a = tt
   line_body place h (b ∷ bs) a =
       let body = item_bytes b ++ (more_items bs ++ codes "\n") in
@@ -107,4 +107,4 @@ module _ (text : List ℕ) where
       let next = s.stand.1.0 in
       let w = stands_within _ _ _ next.stands in
       let z : after.place ≡ b.place + item_size i + 5 = omega arith in
-      (record { stand = subst (λ p. All (ItemAt text) (written_from p (m ∷ ms))) (sym z) s.stand.1; counted = omega arith }, ap (λ p. written_from p (m ∷ ms)) z)
+      (record { stand = subst (λ p. AllByRecursion (ItemAt text) (written_from p (m ∷ ms))) (sym z) s.stand.1; counted = omega arith }, ap (λ p. written_from p (m ∷ ms)) z)

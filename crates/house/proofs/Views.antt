@@ -1,6 +1,6 @@
 -- Rules and their views, one for one.
 use Rattle.std.proofs.Common.{◌≡◌, ℕ, zero, suc, ◌≤◌, List, [], ◌∷◌, length, get_or, Some, None, Option, sym, refl, ap, ◌∙◌, arith}
-use Rattle.std.specs.List.{AllByRecursion as All}
+use Rattle.std.specs.List.{AllByRecursion}
 use Rattle.table.specs.Held.{Read}
 use Rattle.table.proofs.Slots.{length-held}
 use Rattle.house.specs.declared.entries.Rule.{Rule}
@@ -24,6 +24,6 @@ view-read rs place (Some r) h =
 view-read rs place None h = let n = length_views rs in omega arith
 
 -- no body is longer than its table
-pub short_views : (rs : List Rule) → All (λ v. length v.body ≤ 8) (rule_views rs)
+pub short_views : (rs : List Rule) → AllByRecursion (λ v. length v.body ≤ 8) (rule_views rs)
 short_views [] = tt
 short_views (r ∷ rs) = ((let e = length-held r.body in let f = r.body.fits in omega arith), short_views rs)

@@ -1,6 +1,6 @@
 -- Reading a book: the fault of a line is the smallest that it has, and a text is read line after line.
 use Rattle.std.specs.Prelude.{◌≡◌, ℕ, ◌+◌, ◌<◌, ◌≤◌, Bool, true, false, ◌≢◌, ◌⊎◌, ◌↔◌, List, [], ◌∷◌, ◌++◌, length, Some, None, Ok, Err, Option, Result}
-use Rattle.std.specs.List.{AllByRecursion as All}
+use Rattle.std.specs.List.{AllByRecursion}
 use Rattle.book.specs.declared.fault.Fault.{Fault}
 use Rattle.book.specs.declared.fault.Fault.TheVariants.{TooLong, NoForm}
 use Rattle.book.specs.Faults.{fault_number}
@@ -27,7 +27,7 @@ Says before place (l ∷ ls) after = (fault_of before l ≡ None) × Says (with 
 -- bytes that are good lines without fault, and others behind them
 pub record Front (bytes : List ℕ) (before : Policies) (place : ℕ) (lines : List LineText) (after : Policies) (rest : List ℕ) : Type 0 where
   pub writing : bytes ≡ lines_bytes lines ++ rest
-  pub good : All GoodLine lines
+  pub good : AllByRecursion GoodLine lines
   pub says : Says before place lines after
 
 -- no good line stands at the front of the bytes
@@ -50,8 +50,8 @@ Told bytes before place line (Err e) =
 
 -- the register's items and the parties' names stand in the text at their places
 pub record Stand (text : List ℕ) (v : Policies) : Type 0 where
-  pub parties : All (λ e. cut_out text (party_part e) ≡ e.name) v.parties
-  pub items : All (λ w. cut_out text (item_part w) ≡ item_bytes w.item) v.items
+  pub parties : AllByRecursion (λ e. cut_out text (party_part e) ≡ e.name) v.parties
+  pub items : AllByRecursion (λ w. cut_out text (item_part w) ≡ item_bytes w.item) v.items
 
 pub record BookLaw : Type 0 where
   pub smallest : (v : Policies) (l : LineText) → Smallest (has v l) (fault_of v l)

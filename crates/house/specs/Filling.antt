@@ -1,7 +1,7 @@
 -- For the inner contracts of reading: where names, items and lines stand in the text, what the tables hold of the policies
 -- so far, and what each step does.
 use Rattle.std.specs.Prelude.{◌≡◌, ℕ, ◌+◌, ◌<◌, ◌≤◌, Bool, true, false, cond, ◌&&◌, ◌||◌, List, [], ◌∷◌, ◌++◌, map, length, drop, Some, None, Ok, Err, Option, Result}
-use Rattle.std.specs.List.{AllByRecursion as All}
+use Rattle.std.specs.List.{AllByRecursion}
 use Rattle.table.specs.Held.{held}
 use Rattle.book.specs.declared.fault.Fault.{Fault}
 use Rattle.book.specs.declared.fault.Fault.TheVariants.{NoForm, OneLetter, EnrolledBefore, NotEnrolled, Strange, TooMany}
@@ -77,14 +77,14 @@ pub record LineAt (text : List ℕ) (place : ℕ) (l : LineText) : Type 0 where
 
 -- the items of a body that are still to come
 pub record BodyAt (text : List ℕ) (b : Body) (items : List ItemText) : Type 0 where
-  pub stand : All (ItemAt text) (written_from b.place items)
+  pub stand : AllByRecursion (ItemAt text) (written_from b.place items)
   pub counted : b.count ≡ length items
 
 -- Policies that were read from the text without a fault.
 pub record Kept (text : List ℕ) (v : Policies) : Type 0 where
-  pub names : All (NameAt text) v.parties
-  pub items : All (ItemAt text) v.items
-  pub ends : All (λ w. (enrolled v w.item.source ≡ true) × (enrolled v w.item.destination ≡ true)) v.items
+  pub names : AllByRecursion (NameAt text) v.parties
+  pub items : AllByRecursion (ItemAt text) v.items
+  pub ends : AllByRecursion (λ w. (enrolled v w.item.source ≡ true) × (enrolled v w.item.destination ≡ true)) v.items
   pub rules : every (rule_sound (map (entry v) v.items)) v.rules ≡ true
   pub asked : asked_sound (length v.items) v.asked ≡ true
 

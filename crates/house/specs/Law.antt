@@ -1,6 +1,6 @@
 -- What is true of every house: numbers in range, parts within the text, owners concerned by the items of their bodies.
 use Rattle.std.specs.Prelude.{◌≡◌, ℕ, ◌+◌, ◌<◌, ◌≤◌, ◌⊎◌, length, Some, slice_index_or}
-use Rattle.std.specs.List.{AllByRecursion as All}
+use Rattle.std.specs.List.{AllByRecursion}
 use Rattle.book.specs.declared.parts.Part.{Part}
 use Rattle.house.specs.declared.entries.Item.{Item}
 use Rattle.house.specs.View.{RuleView, View}
@@ -30,13 +30,13 @@ pub record Concerns (v : View) (owner b : ℕ) : Type 0 where
 -- a rule of registered items, none strange to its owner
 pub record GoodRule (v : View) (r : RuleView) : Type 0 where
   pub head : r.head < length v.items
-  pub body : All (Concerns v (slice_index_or v.items r.head no_item).source) r.body
+  pub body : AllByRecursion (Concerns v (slice_index_or v.items r.head no_item).source) r.body
 
 -- what is true of every house
 pub record Sound (v : View) : Type 0 where
-  pub parties : All (Within v) v.parties
-  pub items : All (GoodEntry v) v.items
-  pub rules : All (GoodRule v) v.rules
+  pub parties : AllByRecursion (Within v) v.parties
+  pub items : AllByRecursion (GoodEntry v) v.items
+  pub rules : AllByRecursion (GoodRule v) v.rules
   pub asked : (d : ℕ) → v.asked ≡ Some d → d < length v.items
 
 -- and its limits
@@ -45,4 +45,4 @@ pub record Limits (v : View) : Type 0 where
   pub few_items : length v.items ≤ 256
   pub few_rules : length v.rules ≤ 512
   pub short_text : v.size ≤ 32768
-  pub short_bodies : All (λ r. length r.body ≤ 8) v.rules
+  pub short_bodies : AllByRecursion (λ r. length r.body ≤ 8) v.rules

@@ -1,6 +1,6 @@
 -- What is put into an index, step by step.
 use Rattle.std.proofs.Common.{◌≡◌, ℕ, zero, suc, ◌+◌, ◌*◌, ◌<◌, ◌≤◌, List, [], ◌∷◌, ◌++◌, length, take, replicate, Ok, Err, Result, sym, refl, ap, ◌∙◌, inl, inr, append_assoc, append-nil, arith, length-append}
-use Rattle.std.specs.List.{AllByRecursion as All, flat_map}
+use Rattle.std.specs.List.{AllByRecursion, flat_map}
 use Rattle.std.proofs.lemmas.List.{length-replicate}
 use Rattle.table.specs.declared.store.Full.{Full}
 use Rattle.links.specs.Keys.{Pushed}
@@ -23,10 +23,10 @@ rules_push n (x ∷ xs) r m e =
     ap (λ l. replicate (length x.body) n ++ l) (rules_push (suc n) xs r m z) ∙ sym (append_assoc (replicate (length x.body) n) (rules_from (suc n) xs) (replicate (length r.body) m))
 
 -- bodies of at most eight items
-pub few_uses : (rs : List RuleView) → All (λ r. length r.body ≤ 8) rs → (n : ℕ) → n ≤ length rs → (length (flat_map (λ r. r.body) (take n rs)) ≤ 8 * n) × (length (rules_from 0 (take n rs)) ≡ length (flat_map (λ r. r.body) (take n rs)))
+pub few_uses : (rs : List RuleView) → AllByRecursion (λ r. length r.body ≤ 8) rs → (n : ℕ) → n ≤ length rs → (length (flat_map (λ r. r.body) (take n rs)) ≤ 8 * n) × (length (rules_from 0 (take n rs)) ≡ length (flat_map (λ r. r.body) (take n rs)))
 few_uses rs a n l = (bound rs a n l, same 0 (take n rs))
   where
-    bound : (xs : List RuleView) → All (λ r. length r.body ≤ 8) xs → (k : ℕ) → k ≤ length xs → length (flat_map (λ r. r.body) (take k xs)) ≤ 8 * k
+    bound : (xs : List RuleView) → AllByRecursion (λ r. length r.body ≤ 8) xs → (k : ℕ) → k ≤ length xs → length (flat_map (λ r. r.body) (take k xs)) ≤ 8 * k
     bound xs b zero m = omega arith
     bound [] b (suc k) m = omega arith
     bound (x ∷ xs) b (suc k) m =

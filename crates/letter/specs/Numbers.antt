@@ -1,6 +1,6 @@
 -- Numbers as bytes: unsigned LEB128, as in the DWARF standard.
 use Rattle.std.specs.Prelude.{◌≡◌, ℕ, zero, suc, ◌+◌, ◌*◌, ◌/◌, ◌%◌, ◌^◌, ◌<◌, ◌≤◌, cond, ◌↔◌, List, [], ◌∷◌, ◌++◌, length, Ok, Err, Result, nat_lt}
-use Rattle.std.specs.List.{AllByRecursion as All}
+use Rattle.std.specs.List.{AllByRecursion}
 use Rattle.letter.specs.declared.refusal.Refusal.{Refusal}
 use Rattle.letter.specs.Refusals.{Refuses}
 
@@ -20,7 +20,7 @@ value_of (g ∷ gs) = g % 128 + 128 * value_of gs
 
 -- bytes with their top bit set
 abbrev pub TopBitSet : List ℕ → Type 0
-TopBitSet gs = All (λ g. (128 ≤ g) × (g < 256)) gs
+TopBitSet gs = AllByRecursion (λ g. (128 ≤ g) × (g < 256)) gs
 
 -- groups with their top bit set, and a last one without, which is not 0 if any stands before it
 pub record Whole (front : List ℕ) (last : ℕ) : Type 0 where

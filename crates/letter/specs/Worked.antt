@@ -1,6 +1,6 @@
 -- Worked values of the letter format.
 use Rattle.std.specs.Prelude.{◌≡◌, ℕ, List, [], ◌∷◌, ◌++◌, Ok, Err}
-use Rattle.std.specs.List.{AllByRecursion as All}
+use Rattle.std.specs.List.{AllByRecursion}
 use Rattle.letter.specs.declared.letter.Kind.TheVariants.{Request}
 use Rattle.letter.specs.declared.letter.Letter.{Letter}
 use Rattle.letter.specs.declared.refusal.Refusal.{Refusal}
@@ -29,4 +29,4 @@ cases =
     ∷ []
 
 abbrev pub Worked : Type 0
-Worked = All Holds cases
+Worked = AllByRecursion Holds cases

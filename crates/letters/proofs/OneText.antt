@@ -1,6 +1,6 @@
 -- No capture has two texts.
 use Rattle.std.proofs.Common.{◌≡◌, ℕ, ◌<◌, List, [], ◌∷◌, ◌++◌, length, Ok, Err, sym, refl, ap, ◌∙◌, subst, inl, inr, append_assoc, arith, length-append}
-use Rattle.std.specs.List.{flat_map, AllByRecursion as All}
+use Rattle.std.specs.List.{flat_map, AllByRecursion}
 use Rattle.letter.specs.declared.letter.Letter.{Letter}
 use Rattle.letter.specs.Bytes.{letter_bytes, LetterRead}
 use Rattle.letter.proofs.Chained.{no_ok, reads_letter}
@@ -15,7 +15,7 @@ no_letter rest offset line (inl p) l behind h e = omega (arith, ap length (sym p
 no_letter rest offset line (inr p) l behind h e = no_ok p.0 (l, behind) ((p.2.read l behind).1 (record { small = h; bytes_are = e }))
 
 -- the letters of a capture are settled
-same_letters : (a b : List Letter) (r s : List ℕ) → All (λ l. l.item < 256) a → All (λ l. l.item < 256) b →
+same_letters : (a b : List Letter) (r s : List ℕ) → AllByRecursion (λ l. l.item < 256) a → AllByRecursion (λ l. l.item < 256) b →
     ((l : Letter) (behind : List ℕ) → l.item < 256 → r ≡ letter_bytes l ++ behind → ⊥) → ((l : Letter) (behind : List ℕ) → l.item < 256 → s ≡ letter_bytes l ++ behind → ⊥) →
     flat_map letter_bytes a ++ r ≡ flat_map letter_bytes b ++ s → (a ≡ b) × (r ≡ s)
 same_letters [] [] r s ha hb nr ns e = (refl, e)

@@ -1,6 +1,6 @@
 -- The letters of a capture that are printed so far.
 use Rattle.std.proofs.Common.{◌≡◌, ℕ, ◌+◌, ◌-◌, ◌<◌, ◌≤◌, true, false, eqb, List, [], ◌∷◌, ◌++◌, length, Err, sym, refl, ap, ◌∙◌, inl, inr, append_assoc, arith, length-append}
-use Rattle.std.specs.List.{flat_map, AllByRecursion as All}
+use Rattle.std.specs.List.{flat_map, AllByRecursion}
 use Rattle.std.proofs.ByRecursion.{All-push}
 use Rattle.std.proofs.lemmas.List.{flat_map_more}
 use Rattle.letter.specs.declared.letter.Letter.{Letter}
@@ -18,7 +18,7 @@ not_zero n e = grind arith
 
 pub record SoFar (capture rest text : List ℕ) (count : ℕ) : Type 0 where
   pub letters : List Letter
-  pub small : All (λ l. l.item < 256) letters
+  pub small : AllByRecursion (λ l. l.item < 256) letters
   pub captured : capture ≡ flat_map letter_bytes letters ++ rest
   pub printed : text ≡ flat_map letter_line letters
   pub counted : count ≡ length letters

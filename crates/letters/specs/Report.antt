@@ -1,6 +1,6 @@
 -- What is printed for a capture, which is the bytes read from standard input: letters one behind the other.
 use Rattle.std.specs.Prelude.{◌≡◌, ℕ, ◌<◌, ◌⊎◌, List, [], ◌++◌, length, Err, codes, decimal}
-use Rattle.std.specs.List.{flat_map, AllByRecursion as All}
+use Rattle.std.specs.List.{flat_map, AllByRecursion}
 use Rattle.letter.specs.declared.letter.Letter.{Letter}
 use Rattle.letter.specs.declared.refusal.Refusal.{Refusal}
 use Rattle.letter.specs.Refusals.{refusal_number}
@@ -31,7 +31,7 @@ pub record Reported (capture text : List ℕ) : Type 0 where
   pub letters : List Letter
   pub rest : List ℕ
   pub stop : List ℕ
-  pub small : All (λ l. l.item < 256) letters
+  pub small : AllByRecursion (λ l. l.item < 256) letters
   pub captured : capture ≡ flat_map letter_bytes letters ++ rest
   pub stops : StopLine rest (length (flat_map letter_bytes letters)) stop
   pub printed : text ≡ flat_map letter_line letters ++ (stop ++ count_line (length letters))
