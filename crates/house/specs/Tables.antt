@@ -1,4 +1,4 @@
--- What the tables of a house say, read from a text of a length.
+-- What the tables that reading fills say, as those of a house read from a text of a length.
 use Rattle.std.specs.Prelude.{ℕ}
 use Rattle.table.specs.Held.{held}
 use Rattle.house.specs.declared.tables.Tables.{Tables}

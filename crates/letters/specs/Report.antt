@@ -26,7 +26,7 @@ StopLine rest offset line =
     ((rest ≡ []) × (line ≡ [])) ⊎ ((e : Refusal) × (0 < length rest) × LetterRead rest (Err e) × (line ≡ refusal_line e offset))
 
 -- the text that is printed for a capture: its letters, up to its end or to the first bytes that are no letter,
--- where `joined` puts bytes one behind the other with nothing between
+-- where `flat_map` puts the bytes of each one behind the other with nothing between
 pub record Reported (capture text : List ℕ) : Type 0 where
   pub letters : List Letter
   pub rest : List ℕ
