@@ -11,9 +11,9 @@ use Rattle.house.proofs.Registers.{all_of}
 use Rattle.house.proofs.Pushes.{err_ok, err_is}
 use Rattle.book_check.specs.Report.{numbered_line, numbered, party_line, item_line, party_part_line, item_part_line, rule_line, ask_line, listing, view_listing, refusal_line, printed}
 
-numbered-map : {X Y : Type 0} (h : X → Y) (f : ℕ → Y → List ℕ) (g : ℕ → X → List ℕ) (n : ℕ) (xs : List X) → AllByRecursion (λ x. (k : ℕ) → f k (h x) ≡ g k x) xs → numbered f n (each h xs) ≡ numbered g n xs
-numbered-map h f g n [] a = refl
-numbered-map h f g n (x ∷ xs) a = ap (λ l. l ++ numbered f (n + 1) (each h xs)) (a.0 n) ∙ ap (λ l. g n x ++ l) (numbered-map h f g (n + 1) xs a.1)
+numbered-each : {X Y : Type 0} (h : X → Y) (f : ℕ → Y → List ℕ) (g : ℕ → X → List ℕ) (n : ℕ) (xs : List X) → AllByRecursion (λ x. (k : ℕ) → f k (h x) ≡ g k x) xs → numbered f n (each h xs) ≡ numbered g n xs
+numbered-each h f g n [] a = refl
+numbered-each h f g n (x ∷ xs) a = ap (λ l. l ++ numbered f (n + 1) (each h xs)) (a.0 n) ∙ ap (λ l. g n x ++ l) (numbered-each h f g (n + 1) xs a.1)
 
 module _ (book : List ℕ) where
   -- names and items stand at their places
@@ -21,8 +21,8 @@ module _ (book : List ℕ) where
   same_listing v e =
       let s = book_law.places book v e in
       let rest = flat_map rule_line v.rules ++ ask_line v.asked in
-      let parties = numbered-map party_part (party_part_line book) party_line 0 v.parties (all_of (λ x c k. ap (numbered_line (codes "party") k) c) v.parties s.parties) in
-      let items = numbered-map (entry v) (item_part_line book) item_line 0 v.items (all_of (λ x c k. ap (numbered_line (codes "item") k) c) v.items s.items) in
+      let parties = numbered-each party_part (party_part_line book) party_line 0 v.parties (all_of (λ x c k. ap (numbered_line (codes "party") k) c) v.parties s.parties) in
+      let items = numbered-each (entry v) (item_part_line book) item_line 0 v.items (all_of (λ x c k. ap (numbered_line (codes "item") k) c) v.items s.items) in
       ap (λ l. l ++ (numbered (item_part_line book) 0 (each (entry v) v.items) ++ rest)) parties ∙ ap (λ l. numbered party_line 0 v.parties ++ (l ++ rest)) items
 
   shown : (r : Result Policies FaultAt) → book_read book ≡ r → printed book ≡ (elim r [ Ok v ↦ listing v | Err e ↦ refusal_line (refusal_of e) ])
