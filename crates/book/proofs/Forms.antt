@@ -1,313 +1,98 @@
--- The four forms of a line, step by step.
-use Rattle.std.proofs.Common.{◌≡◌, ℕ, ◌+◌, ◌≤◌, List, ◌++◌, length, drop, Some, None, Ok, Err, codes, Result, sym, refl, ap, ◌∙◌, subst, arith, length-append}
+-- The four forms of a line.
+use Rattle.std.proofs.Common.{◌≡◌, ℕ, ◌+◌, List, ◌∷◌, length, is_some, true, false, Some, None, Option, Ok, Err, codes, Result, sym, refl, ap, ◌∙◌, arith, length-append}
 use Rattle.book.specs.declared.fault.Fault.{Fault}
-use Rattle.book.specs.declared.fault.Fault.TheVariants.{NoForm}
-use Rattle.book.specs.declared.parts.Part.{Part}
-use Rattle.book.specs.declared.parts.ItemParts.{ItemParts}
 use Rattle.book.specs.declared.parts.Line.{Line}
-use Rattle.book.specs.declared.parts.Line.TheVariants.{Party, Hold, Rule, Ask}
 use Rattle.book.specs.declared.reader.Reader.{Reader}
-use Rattle.book.specs.Grammar.{ItemText, item_bytes, more_items, LineText}
+use Rattle.book.specs.Grammar.{LineText}
 use Rattle.book.specs.Reading.{Parsed, then, name_in, word_in, item_in, more_in, party_in, hold_in, rule_in, ask_in, behind, line_in}
-use Rattle.book.specs.Places.{left, Reads, name_part, item_parts, item_size}
-use Rattle.book.specs.Lines.{LineAnswer, ItemLineAnswer, form_parts, form_size, keyword_size, line_parts, line_size, item_line_in, item_line_size, more_size}
-use Rattle.book.proofs.Names.{then_some, some_parts}
-use Rattle.book.proofs.Lines.{items_long}
-use Rattle.book.proofs.Steps.{Took, took, took_none, step, stop}
+use Rattle.book.specs.Places.{left, Reads}
+use Rattle.book.specs.Lines.{LineAnswer, RuleText, form_in, form_size, first_form, forms, line_parts, line_size, rule_form, rule_parts, rule_size}
+use Rattle.book.proofs.Steps.{took, missed, word_took, word_missed, On, start, ahead_start, turn, on, off, misfit, end}
 
-abbrev pub NameStep : Reader → Part → Reader → Type 0
-NameStep r p s = Took (name_in (left r)) r name_part length p s
+pub line_sizes : (l : LineText) → form_size l + 1 ≡ line_size l
+line_sizes (LineText.party n) = simp length-append (omega arith)
+line_sizes (LineText.hold i) = simp length-append (omega arith)
+line_sizes (LineText.rule h b bs) = simp length-append (omega arith)
+line_sizes (LineText.ask i) = simp length-append (omega arith)
 
-abbrev pub WordStep : List ℕ → Reader → Reader → Type 0
-WordStep w r s = Took (word_in w (left r)) r (λ _ u. u) (λ _. length w) tt s
+-- a line and the byte that ends it
+abbrev ended : LineText → List ℕ → Parsed LineText
+ended l bytes = then (word_in (codes "\n") bytes) λ _ rest. Some (l, rest)
 
-abbrev pub ItemStep : Reader → ItemParts → Reader → Type 0
-ItemStep r p s = Took (item_in (left r)) r item_parts item_size p s
+within : {A B C : Type 0} (close : Parsed B → Parsed C) → None ≡ close None → (P : Parsed A) (f : A → List ℕ → Parsed C) (g : A → List ℕ → Parsed B) → ((a : A) (b : List ℕ) → f a b ≡ close (g a b)) → then P f ≡ close (then P g)
+within close n None f g h = n
+within close n (Some p) f g h = h p.0 p.1
 
-module _ (show : ℕ → LineText → Line) (size : LineText → ℕ) (before after : Reader) (P : Parsed LineText) where
-  line_at : (l : LineText) (rest : List ℕ) → P ≡ Some (l, rest) → (answer : Result Line Fault) → answer ≡ Ok (show before.place l) → after.text ≡ before.text → after.place ≡ before.place + size l → left after ≡ rest → LineAnswer P show size before answer after
-  line_at l rest e answer s t p q = subst (λ o. LineAnswer o show size before answer after) (sym e) (s, t, p, q)
+abbrev end_line : Parsed LineText → Parsed LineText
+end_line o = then o ended
 
-  pub line_none : P ≡ None → after.text ≡ before.text → LineAnswer P show size before (Err NoForm) after
-  line_none e t = subst (λ o. LineAnswer o show size before (Err NoForm) after) (sym e) (refl, t)
+abbrev end_rule : Parsed RuleText → Parsed LineText
+end_rule o = end_line (then o λ r rest. Some (LineText.rule r.0 r.1 r.2, rest))
 
--- party NAME
-module _ (r0 r1 : Reader) where
-  pub party_no_name : Reads (name_in (left r0)) r0 name_part length None r1 → LineAnswer (party_in (left r0)) form_parts form_size r0 (Err NoForm) r1
-  unfolding party_in
-  party_no_name n =
-      let k = took_none (name_in (left r0)) r0 name_part length r1 n in
-      line_none form_parts form_size r0 r1 (party_in (left r0)) (stop (name_in (left r0)) _ k.0) k.1
-
-  module _ (p : Part) (t1 : NameStep r0 p r1) (r2 : Reader) where
-    pub party_no_end : Reads (word_in (codes "\n") (left r1)) r1 (λ _ u. u) (λ _. 1) None r2 → LineAnswer (party_in (left r0)) form_parts form_size r0 (Err NoForm) r2
-    unfolding party_in
-    party_no_end n =
-        let k = took_none (word_in (codes "\n") (left r1)) r1 (λ _ u. u) (λ _. 1) r2 n in
-        line_none form_parts form_size r0 r2 (party_in (left r0)) (step (name_in (left r0)) _ r0 name_part length p r1 t1 ∙ stop (word_in (codes "\n") (left r1)) _ k.0) (k.1 ∙ t1.text)
-
-    pub party_whole : WordStep (codes "\n") r1 r2 → LineAnswer (party_in (left r0)) form_parts form_size r0 (Ok (Party p)) r2
-    unfolding party_in
-    party_whole t2 =
-        let q1 = t1.place in
-        let q2 = t2.place in
-        line_at form_parts form_size r0 r2 (party_in (left r0)) (LineText.party t1.value) (left r2)
-        (step (name_in (left r0)) _ r0 name_part length p r1 t1 ∙ step (word_in (codes "\n") (left r1)) _ r1 (λ _ u. u) (λ _. 1) tt r2 t2)
-        (Ok (Party p)) (ap (λ x. Ok (Party x)) t1.shown) (t2.text ∙ t1.text) (omega arith) refl
-
--- ITEM and the line's end
-module _ (before after : Reader) (P : Parsed ItemText) where
-  item_line_at : (i : ItemText) (rest : List ℕ) → P ≡ Some (i, rest) → (answer : Result ItemParts Fault) → answer ≡ Ok (item_parts before.place i) → after.text ≡ before.text → after.place ≡ before.place + item_line_size i → left after ≡ rest → ItemLineAnswer P before answer after
-  item_line_at i rest e answer s t p q = subst (λ o. ItemLineAnswer o before answer after) (sym e) (s, t, p, q)
-
-  item_line_none : P ≡ None → after.text ≡ before.text → ItemLineAnswer P before (Err NoForm) after
-  item_line_none e t = subst (λ o. ItemLineAnswer o before (Err NoForm) after) (sym e) (refl, t)
-
-module _ (r0 r1 : Reader) where
-  pub line_no_item : Reads (item_in (left r0)) r0 item_parts item_size None r1 → ItemLineAnswer (item_line_in (left r0)) r0 (Err NoForm) r1
-  unfolding item_line_in
-  line_no_item n =
-      let k = took_none (item_in (left r0)) r0 item_parts item_size r1 n in
-      item_line_none r0 r1 (item_line_in (left r0)) (stop (item_in (left r0)) _ k.0) k.1
-
-  module _ (p : ItemParts) (t1 : ItemStep r0 p r1) (r2 : Reader) where
-    pub line_no_end : Reads (word_in (codes "\n") (left r1)) r1 (λ _ u. u) (λ _. 1) None r2 → ItemLineAnswer (item_line_in (left r0)) r0 (Err NoForm) r2
-    unfolding item_line_in
-    line_no_end n =
-        let k = took_none (word_in (codes "\n") (left r1)) r1 (λ _ u. u) (λ _. 1) r2 n in
-        item_line_none r0 r2 (item_line_in (left r0)) (step (item_in (left r0)) _ r0 item_parts item_size p r1 t1 ∙ stop (word_in (codes "\n") (left r1)) _ k.0) (k.1 ∙ t1.text)
-
-    pub line_item : WordStep (codes "\n") r1 r2 → ItemLineAnswer (item_line_in (left r0)) r0 (Ok p) r2
-    unfolding item_line_in
-    line_item t2 =
-        let q1 = t1.place in
-        let q2 = t2.place in
-        item_line_at r0 r2 (item_line_in (left r0)) t1.value (left r2)
-        (step (item_in (left r0)) _ r0 item_parts item_size p r1 t1 ∙ step (word_in (codes "\n") (left r1)) _ r1 (λ _ u. u) (λ _. 1) tt r2 t2)
-        (Ok p) (ap Ok t1.shown) (t2.text ∙ t1.text) (omega arith) refl
-
--- ITEM if ITEM and ITEM
-module _ (r0 r1 : Reader) where
-  pub rule_no_head : Reads (item_in (left r0)) r0 item_parts item_size None r1 → LineAnswer (rule_in (left r0)) form_parts form_size r0 (Err NoForm) r1
-  unfolding rule_in
-  rule_no_head n =
-      let k = took_none (item_in (left r0)) r0 item_parts item_size r1 n in
-      line_none form_parts form_size r0 r1 (rule_in (left r0)) (stop (item_in (left r0)) _ k.0) k.1
-
-  module _ (p1 : ItemParts) (t1 : ItemStep r0 p1 r1) (r2 : Reader) where
-    pub rule_no_if : Reads (word_in (codes " if ") (left r1)) r1 (λ _ u. u) (λ _. 4) None r2 → LineAnswer (rule_in (left r0)) form_parts form_size r0 (Err NoForm) r2
-    unfolding rule_in
-    rule_no_if n =
-        let k = took_none (word_in (codes " if ") (left r1)) r1 (λ _ u. u) (λ _. 4) r2 n in
-        line_none form_parts form_size r0 r2 (rule_in (left r0)) (step (item_in (left r0)) _ r0 item_parts item_size p1 r1 t1 ∙ stop (word_in (codes " if ") (left r1)) _ k.0) (k.1 ∙ t1.text)
-
-    module _ (t2 : WordStep (codes " if ") r1 r2) (r3 : Reader) where
-      pub rule_no_body : Reads (item_in (left r2)) r2 item_parts item_size None r3 → LineAnswer (rule_in (left r0)) form_parts form_size r0 (Err NoForm) r3
-      unfolding rule_in
-      rule_no_body n =
-          let k = took_none (item_in (left r2)) r2 item_parts item_size r3 n in
-          line_none form_parts form_size r0 r3 (rule_in (left r0))
-          (step (item_in (left r0)) _ r0 item_parts item_size p1 r1 t1 ∙ step (word_in (codes " if ") (left r1)) _ r1 (λ _ u. u) (λ _. 4) tt r2 t2 ∙ stop (item_in (left r2)) _ k.0)
-          (k.1 ∙ t2.text ∙ t1.text)
-
-      module _ (p3 : ItemParts) (t3 : ItemStep r2 p3 r3) (r4 : Reader) where
-        pub rule_no_more : Reads (more_in (length (left r3)) (left r3)) r3 (λ _ is. length is) more_size None r4 → LineAnswer (rule_in (left r0)) form_parts form_size r0 (Err NoForm) r4
-        unfolding rule_in
-        rule_no_more n =
-            let k = took_none (more_in (length (left r3)) (left r3)) r3 (λ _ is. length is) more_size r4 n in
-            line_none form_parts form_size r0 r4 (rule_in (left r0))
-            (step (item_in (left r0)) _ r0 item_parts item_size p1 r1 t1 ∙ step (word_in (codes " if ") (left r1)) _ r1 (λ _ u. u) (λ _. 4) tt r2 t2 ∙ step (item_in (left r2)) _ r2 item_parts item_size p3 r3 t3
-            ∙ stop (more_in (length (left r3)) (left r3)) _ k.0)
-            (k.1 ∙ t3.text ∙ t2.text ∙ t1.text)
-
-        module _ (more : ℕ) (t4 : Took (more_in (length (left r3)) (left r3)) r3 (λ _ is. length is) more_size more r4) (r5 : Reader) where
-          pub rule_no_end : Reads (word_in (codes "\n") (left r4)) r4 (λ _ u. u) (λ _. 1) None r5 → LineAnswer (rule_in (left r0)) form_parts form_size r0 (Err NoForm) r5
-          unfolding rule_in
-          rule_no_end n =
-              let k = took_none (word_in (codes "\n") (left r4)) r4 (λ _ u. u) (λ _. 1) r5 n in
-              line_none form_parts form_size r0 r5 (rule_in (left r0))
-              (step (item_in (left r0)) _ r0 item_parts item_size p1 r1 t1 ∙ step (word_in (codes " if ") (left r1)) _ r1 (λ _ u. u) (λ _. 4) tt r2 t2 ∙ step (item_in (left r2)) _ r2 item_parts item_size p3 r3 t3
-              ∙ step (more_in (length (left r3)) (left r3)) _ r3 (λ _ is. length is) more_size more r4 t4 ∙ stop (word_in (codes "\n") (left r4)) _ k.0)
-              (k.1 ∙ t4.text ∙ t3.text ∙ t2.text ∙ t1.text)
-
-          pub rule_whole : WordStep (codes "\n") r4 r5 → LineAnswer (rule_in (left r0)) form_parts form_size r0 (Ok (Rule p1 r2.place (1 + more))) r5
-          unfolding rule_in
-          rule_whole t5 =
-              let q1 = t1.place in
-              let q2 = t2.place in
-              let q3 = t3.place in
-              let q4 = t4.place in
-              let q5 = t5.place in
-              let b : r2.place ≡ r0.place + item_size t1.value + 4 = omega arith in
-              line_at form_parts form_size r0 r5 (rule_in (left r0)) (LineText.rule t1.value t3.value t4.value) (left r5)
-              (step (item_in (left r0)) _ r0 item_parts item_size p1 r1 t1 ∙ step (word_in (codes " if ") (left r1)) _ r1 (λ _ u. u) (λ _. 4) tt r2 t2 ∙ step (item_in (left r2)) _ r2 item_parts item_size p3 r3 t3
-              ∙ step (more_in (length (left r3)) (left r3)) _ r3 (λ _ is. length is) more_size more r4 t4 ∙ step (word_in (codes "\n") (left r4)) _ r4 (λ _ u. u) (λ _. 1) tt r5 t5)
-              (Ok (Rule p1 r2.place (1 + more))) (λ j. Ok (Rule (t1.shown j) (b j) (1 + t4.shown j))) (t5.text ∙ t4.text ∙ t3.text ∙ t2.text ∙ t1.text) (omega arith) refl
-
-          pub few_more : 1 + more ≤ r4.place
-          few_more =
-              let q2 = t2.place in
-              let q3 = t3.place in
-              let q4 = t4.place in
-              let n = t4.shown in
-              omega (arith, items_long t4.value)
-
--- the keyword decides the form
-module _ (w b : List ℕ) (form : List ℕ → Parsed LineText) (other : Parsed LineText) where
-  chosen : Parsed (Unit {0}) → Parsed LineText
-  chosen o = elim o as (λ _. Parsed LineText) [ None ↦ other | Some p ↦ form p.1 ]
-
-  this_form : (rest : List ℕ) → word_in w b ≡ Some (tt, rest) → behind w b form other ≡ form rest
-  unfolding chosen
-  this_form rest e = ap chosen e
-
-  other_form : word_in w b ≡ None → behind w b form other ≡ other
-  unfolding chosen
-  other_form e = ap chosen e
-
-pub line_party : (b rest : List ℕ) → word_in (codes "party ") b ≡ Some (tt, rest) → line_in b ≡ party_in rest
-unfolding line_in
-line_party b rest e = this_form (codes "party ") b party_in _ rest e
-
-pub line_hold : (b rest : List ℕ) → word_in (codes "party ") b ≡ None → word_in (codes "hold ") b ≡ Some (tt, rest) → line_in b ≡ hold_in rest
-unfolding line_in
-line_hold b rest n e = other_form (codes "party ") b party_in _ n ∙ this_form (codes "hold ") b hold_in _ rest e
-
-pub line-rule : (b rest : List ℕ) → word_in (codes "party ") b ≡ None → word_in (codes "hold ") b ≡ None → word_in (codes "rule ") b ≡ Some (tt, rest) → line_in b ≡ rule_in rest
-unfolding line_in
-line-rule b rest n m e = other_form (codes "party ") b party_in _ n ∙ other_form (codes "hold ") b hold_in _ m ∙ this_form (codes "rule ") b rule_in _ rest e
-
-pub line_ask : (b rest : List ℕ) → word_in (codes "party ") b ≡ None → word_in (codes "hold ") b ≡ None → word_in (codes "rule ") b ≡ None → word_in (codes "ask ") b ≡ Some (tt, rest) → line_in b ≡ ask_in rest
-unfolding line_in
-line_ask b rest n m o e =
-    other_form (codes "party ") b party_in _ n ∙ other_form (codes "hold ") b hold_in _ m ∙ other_form (codes "rule ") b rule_in _ o ∙ this_form (codes "ask ") b ask_in None rest e
-
-pub line-nothing : (b : List ℕ) → word_in (codes "party ") b ≡ None → word_in (codes "hold ") b ≡ None → word_in (codes "rule ") b ≡ None → word_in (codes "ask ") b ≡ None → line_in b ≡ None
-unfolding line_in
-line-nothing b n m o p =
-    other_form (codes "party ") b party_in _ n ∙ other_form (codes "hold ") b hold_in _ m ∙ other_form (codes "rule ") b rule_in _ o ∙ other_form (codes "ask ") b ask_in None p
-
--- the keyword of each form
-pub party_keyword : (b : List ℕ) (l : LineText) (rest : List ℕ) → party_in b ≡ Some (l, rest) → keyword_size l ≡ 6
+party_ends : (b : List ℕ) → party_in b ≡ end_line (then (name_in b) λ n rest. Some (LineText.party n, rest))
 unfolding party_in
-party_keyword b l rest e =
-    let p = then_some (name_in b) _ _ e in
-    let q = then_some (word_in (codes "\n") p.1) _ _ p.3 in
-    sym (ap keyword_size (some_parts (LineText.party p.0) l q.1 rest q.3).0)
+party_ends b = within end_line refl (name_in b) _ _ (λ n rest. refl)
 
-pub rule_keyword : (b : List ℕ) (l : LineText) (rest : List ℕ) → rule_in b ≡ Some (l, rest) → keyword_size l ≡ 5
-unfolding rule_in
-rule_keyword b l rest e =
-    let p1 = then_some (item_in b) _ _ e in
-    let p2 = then_some (word_in (codes " if ") p1.1) _ _ p1.3 in
-    let p3 = then_some (item_in p2.1) _ _ p2.3 in
-    let p4 = then_some (more_in (length p3.1) p3.1) _ _ p3.3 in
-    let p5 = then_some (word_in (codes "\n") p4.1) _ _ p4.3 in
-    sym (ap keyword_size (some_parts (LineText.rule p1.0 p3.0 p4.0) l p5.1 rest p5.3).0)
+hold_ends : (b : List ℕ) → hold_in b ≡ end_line (then (item_in b) λ i rest. Some (LineText.hold i, rest))
+unfolding hold_in
+hold_ends b = within end_line refl (item_in b) _ _ (λ i rest. refl)
 
--- a form of one item
-one_item : (make : ItemText → LineText) (o : Parsed ItemText) →
-    then o (λ i b. then (word_in (codes "\n") b) (λ _ rest. Some (make i, rest))) ≡ then (then o (λ i b. then (word_in (codes "\n") b) (λ _ rest. Some (i, rest)))) (λ i rest. Some (make i, rest))
-one_item make None = refl
-one_item make (Some p) = go (word_in (codes "\n") p.1)
+rule_ends : (b : List ℕ) → rule_in b ≡ end_rule (rule_form b)
+unfolding rule_in rule_form
+rule_ends b =
+    within end_rule refl (item_in b) _ _ (λ h b1.
+    within end_rule refl (word_in (codes " if ") b1) _ _ (λ _ b2. within end_rule refl (item_in b2) _ _ (λ i b3. within end_rule refl (more_in (length b3) b3) _ _ (λ is rest. refl))))
+
+ask_ends : (b : List ℕ) → ask_in b ≡ end_line (then (item_in b) λ i rest. Some (LineText.ask i, rest))
+unfolding ask_in
+ask_ends b = within end_line refl (item_in b) _ _ (λ i rest. refl)
+
+behind_ends : (w bytes : List ℕ) (f g : List ℕ → Parsed LineText) (other rest : Parsed LineText) → ((b : List ℕ) → f b ≡ end_line (g b)) → other ≡ end_line rest → behind w bytes f other ≡ end_line (behind w bytes g rest)
+behind_ends w bytes f g other rest h e = go (word_in w bytes)
   where
-    go : (o : Parsed (Unit {0})) → then o (λ _ rest. Some (make p.0, rest)) ≡ then (then o (λ _ rest. Some (p.0, rest))) (λ i rest. Some (make i, rest))
-    go None = refl
-    go (Some q) = refl
+    go : (o : Parsed (Unit {0})) → elim o as (λ _. Parsed LineText) [ None ↦ other | Some p ↦ f p.1 ] ≡ end_line (elim o as (λ _. Parsed LineText) [ None ↦ rest | Some p ↦ g p.1 ])
+    go None = e
+    go (Some p) = h p.1
 
-holds : (b : List ℕ) → hold_in b ≡ then (item_line_in b) (λ i rest. Some (LineText.hold i, rest))
-unfolding hold_in item_line_in
-holds b = one_item LineText.hold (item_in b)
+line_ends : (bytes : List ℕ) → line_in bytes ≡ then (form_in bytes) ended
+unfolding line_in form_in
+line_ends bytes =
+    behind_ends (codes "party ") bytes party_in _ _ _ party_ends
+    (behind_ends (codes "hold ") bytes hold_in _ _ _ hold_ends (behind_ends (codes "rule ") bytes rule_in _ _ _ rule_ends (behind_ends (codes "ask ") bytes ask_in _ None None ask_ends refl)))
 
-asks : (b : List ℕ) → ask_in b ≡ then (item_line_in b) (λ i rest. Some (LineText.ask i, rest))
-unfolding ask_in item_line_in
-asks b = one_item LineText.ask (item_in b)
+pub line_start : (begin ahead : Reader) → ahead.text ≡ begin.text → ahead.place ≡ begin.place → On (line_in (left begin)) begin (then (form_in (left ahead)) ended) ahead 0
+line_start begin ahead t p = turn (ahead_start line_in begin ahead t p) (line_ends (left ahead))
 
-line_sizes : (l : LineText) → line_size l ≡ keyword_size l + form_size l
-line_sizes (LineText.party n) = omega (arith, length-append n (codes "\n"))
-line_sizes (LineText.hold i) = omega (arith, length-append (item_bytes i) (codes "\n"))
-line_sizes (LineText.rule h b bs) =
-    omega (arith, length-append (item_bytes h) (codes " if " ++ (item_bytes b ++ (more_items bs ++ codes "\n"))), length-append (item_bytes b) (more_items bs ++ codes "\n"), length-append (more_items bs) (codes "\n"))
-line_sizes (LineText.ask i) = omega (arith, length-append (item_bytes i) (codes "\n"))
+-- the word at the front decides the form, of those that are still open
+pub record Open (begin at : Reader) (fs : List (List ℕ × (List ℕ → Parsed LineText))) : Type 0 where
+  pub way : On (form_in (left begin)) begin (first_form fs (left at)) at 0
 
--- a reader behind the keyword of a line
-module _ (r0 r1 r2 : Reader) (t : r1.text ≡ r0.text) where
-  pub by_form : (P : Parsed LineText) (k : ℕ) (answer : Result Line Fault) → ((l : LineText) (rest : List ℕ) → P ≡ Some (l, rest) → keyword_size l ≡ k) → line_in (left r0) ≡ P → r1.place ≡ r0.place + k →
-      LineAnswer P form_parts form_size r1 answer r2 → LineAnswer (line_in (left r0)) line_parts line_size r0 answer r2
-  by_form None k answer f e p a = subst (λ o. LineAnswer o line_parts line_size r0 answer r2) (sym e) (a.0, a.1 ∙ t)
-  by_form (Some q) k answer f e p a =
-      let c = f q.0 q.1 refl in
-      let m : r1.place ≡ r0.place + keyword_size q.0 = omega arith in
-      let n = a.2 in
-      subst (λ o. LineAnswer o line_parts line_size r0 answer r2) (sym e)
-      (a.0 ∙ ap (λ x. Ok (form_parts x q.0)) m, a.1 ∙ t, omega (arith, line_sizes q.0), a.3)
+pub all_open : (r : Reader) → Open r r forms
+unfolding form_in
+all_open r = record { way = start (form_in (left r)) r }
 
-  -- a line of one item
-  module _ (make : ItemText → LineText) (shown : ItemParts → Line) (k : ℕ)
-      (shows : (place : ℕ) (i : ItemText) → line_parts place (make i) ≡ shown (item_parts (place + k) i)) (sizes : (i : ItemText) → line_size (make i) ≡ k + item_line_size i) where
-    item_form : (o : Parsed ItemText) → line_in (left r0) ≡ then o (λ i rest. Some (make i, rest)) → r1.place ≡ r0.place + k → (p : ItemParts) → ItemLineAnswer o r1 (Ok p) r2 → LineAnswer (line_in (left r0)) line_parts line_size r0 (Ok (shown p)) r2
-    item_form None e q p a = absurd (let z = a.0 in let y : ◌≡◌ {A = ℕ} 0 1 = cc in omega arith)
-    item_form (Some x) e q p a =
-        let s : p ≡ item_parts r1.place x.0 = let z = a.0 in cc in
-        let n = a.2 in
-        subst (λ o. LineAnswer o line_parts line_size r0 (Ok (shown p)) r2) (sym e)
-        (ap (λ y. Ok (shown y)) (s ∙ ap (λ y. item_parts y x.0) q) ∙ ap Ok (sym (shows r0.place x.0)), a.1 ∙ t, omega (arith, sizes x.0), a.3)
+module _ {begin at : Reader} {w : List ℕ} {f : List ℕ → Parsed LineText} {fs : List (List ℕ × (List ℕ → Parsed LineText))} (o : Open begin at ((w, f) ∷ fs)) (after : Reader) (answer : Option (Unit {0}))
+    (r : Reads (word_in w (left at)) at (λ _ u. u) (λ _. length w) answer after) where
+  by_word : Parsed (Unit {0}) → Parsed LineText
+  by_word x = elim x as (λ _. Parsed LineText) [ None ↦ first_form fs (left at) | Some p ↦ f p.1 ]
 
-    item_misfit : (o : Parsed ItemText) → line_in (left r0) ≡ then o (λ i rest. Some (make i, rest)) → (f : Fault) → ItemLineAnswer o r1 (Err f) r2 → LineAnswer (line_in (left r0)) line_parts line_size r0 (Err f) r2
-    item_misfit None e f a = subst (λ o. LineAnswer o line_parts line_size r0 (Err f) r2) (sym e) (let z = a.0 in (cc), a.1 ∙ t)
-    item_misfit (Some x) e f a = absurd (let z = a.0 in let y : ◌≡◌ {A = ℕ} 0 1 = cc in omega arith)
+  pub this_form : is_some answer ≡ true → On (form_in (left begin)) begin (f (left after)) after (length w)
+  unfolding by_word
+  this_form e =
+      let t = word_took w at after answer r e in
+      let p = o.way.place in
+      let q = t.place in
+      record { is = o.way.is ∙ ap by_word t.parsed; text = t.text ∙ o.way.text; place = omega arith }
 
-hold_sizes : (i : ItemText) → line_size (LineText.hold i) ≡ 5 + item_line_size i
-hold_sizes i = line_sizes (LineText.hold i)
+  pub other_form : (answer ≡ None → after ≡ at) → is_some answer ≡ false → Open begin after fs
+  unfolding by_word
+  other_form s e =
+      let m = word_missed w at after answer r s e in
+      record { way = record { is = o.way.is ∙ ap by_word m.0.parsed ∙ sym (ap (λ r. first_form fs (left r)) m.1); text = m.0.text ∙ o.way.text; place = ap (λ r. r.place) m.1 ∙ o.way.place } }
 
-ask_sizes : (i : ItemText) → line_size (LineText.ask i) ≡ 4 + item_line_size i
-ask_sizes i = line_sizes (LineText.ask i)
-
-module _ (r0 r1 r2 : Reader) (t : r1.text ≡ r0.text) where
-  pub hold_line : line_in (left r0) ≡ hold_in (left r1) → r1.place ≡ r0.place + 5 → (p : ItemParts) → ItemLineAnswer (item_line_in (left r1)) r1 (Ok p) r2 → LineAnswer (line_in (left r0)) line_parts line_size r0 (Ok (Hold p)) r2
-  hold_line e q p a = item_form r0 r1 r2 t LineText.hold Hold 5 (λ _ _. refl) hold_sizes (item_line_in (left r1)) (e ∙ holds (left r1)) q p a
-
-  pub hold_misfit : line_in (left r0) ≡ hold_in (left r1) → (f : Fault) → ItemLineAnswer (item_line_in (left r1)) r1 (Err f) r2 → LineAnswer (line_in (left r0)) line_parts line_size r0 (Err f) r2
-  hold_misfit e f a = item_misfit r0 r1 r2 t LineText.hold Hold 5 (λ _ _. refl) hold_sizes (item_line_in (left r1)) (e ∙ holds (left r1)) f a
-
-  pub ask_line : line_in (left r0) ≡ ask_in (left r1) → r1.place ≡ r0.place + 4 → (p : ItemParts) → ItemLineAnswer (item_line_in (left r1)) r1 (Ok p) r2 → LineAnswer (line_in (left r0)) line_parts line_size r0 (Ok (Ask p)) r2
-  ask_line e q p a = item_form r0 r1 r2 t LineText.ask Ask 4 (λ _ _. refl) ask_sizes (item_line_in (left r1)) (e ∙ asks (left r1)) q p a
-
-  pub ask_misfit : line_in (left r0) ≡ ask_in (left r1) → (f : Fault) → ItemLineAnswer (item_line_in (left r1)) r1 (Err f) r2 → LineAnswer (line_in (left r0)) line_parts line_size r0 (Err f) r2
-  ask_misfit e f a = item_misfit r0 r1 r2 t LineText.ask Ask 4 (λ _ _. refl) ask_sizes (item_line_in (left r1)) (e ∙ asks (left r1)) f a
-
--- a reader that has not moved since r0
-pub record Stays (r0 r : Reader) : Type 0 where
-  pub text : r.text ≡ r0.text
-  pub place : r.place ≡ r0.place
-
-pub at_rest : (r : Reader) → Stays r r
-at_rest r = record { text = refl; place = refl }
-
-stay_left : (r0 r : Reader) → Stays r0 r → left r ≡ left r0
-stay_left r0 r s = λ j. drop (s.place j) (s.text j).now
-
--- a keyword that does not fit, and one that does
-pub record Missed (w : List ℕ) (r0 r : Reader) : Type 0 where
-  pub none : word_in w (left r0) ≡ None
-  pub stays : Stays r0 r
-
-pub record Found (w : List ℕ) (r0 r : Reader) : Type 0 where
-  pub parsed : word_in w (left r0) ≡ Some (tt, left r)
-  pub text : r.text ≡ r0.text
-  pub place : r.place ≡ r0.place + length w
-
-module _ (w : List ℕ) (r0 r r' : Reader) (s : Stays r0 r) where
-  pub missed : Reads (word_in w (left r)) r (λ _ u. u) (λ _. length w) None r' → r'.place ≡ r.place → Missed w r0 r'
-  missed n p =
-      let k = took_none (word_in w (left r)) r (λ _ u. u) (λ _. length w) r' n in
-      record { none = ap (word_in w) (sym (stay_left r0 r s)) ∙ k.0; stays = record { text = k.1 ∙ s.text; place = p ∙ s.place } }
-
-  pub found : Reads (word_in w (left r)) r (λ _ u. u) (λ _. length w) (Some tt) r' → Found w r0 r'
-  found n =
-      let k = took (word_in w (left r)) r (λ _ u. u) (λ _. length w) tt r' n in
-      record {
-        parsed = ap (word_in w) (sym (stay_left r0 r s)) ∙ k.parsed ∙ ap (λ b. Some (tt, b)) (sym k.left_is);
-        text = k.text ∙ s.text;
-        place = k.place ∙ ap (λ n. n + length w) s.place;
-      }
+pub rule_line : (begin at after : Reader) (answer : Result Line Fault) → On (form_in (left begin)) begin (then (rule_form (left at)) λ r rest. Some (LineText.rule r.0 r.1 r.2, rest)) at 5 →
+    LineAnswer (rule_form (left at)) at rule_parts rule_size answer after → LineAnswer (form_in (left begin)) begin line_parts form_size answer after
+rule_line begin at after (Ok l) o r =
+    let t = took (rule_form (left at)) at rule_parts rule_size l after r in
+    end line_parts form_size (on _ o t) (t.shown ∙ ap (λ n. rule_parts n t.value) o.place) refl
+rule_line begin at after (Err f) o r = (r.0, misfit line_parts form_size (off _ o (missed (rule_form (left at)) at rule_parts rule_size after r.1)))

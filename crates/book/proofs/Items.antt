@@ -3,7 +3,7 @@ use Rattle.std.proofs.Common.{◌≡◌, ℕ, zero, suc, ◌≤◌, Bool, true, 
 use Rattle.std.specs.List.{AllByRecursion}
 use Rattle.book.specs.Grammar.{Name, GoodName, Credential, GoodCredential, ItemText, GoodItem, more_terms, credential_bytes, item_bytes}
 use Rattle.book.specs.Reading.{Parsed, then, name_in, word_in, terms_in, credential_in, item_in}
-use Rattle.book.proofs.Names.{Stop, then_some, some_parts, name_at, name_of, word_at, word_of}
+use Rattle.book.proofs.Names.{Stop, then_some, some_same, name_at, name_of, word_at, word_of}
 
 terms_stop : (ts : List Name) (rest : List ℕ) → Stop (more_terms ts ++ 41 ∷ rest)
 terms_stop [] rest = refl
@@ -23,37 +23,33 @@ TermsOf most bytes ts rest = (bytes ≡ more_terms ts ++ 41 ∷ rest) × AllByRe
 
 no_terms : (most b : ℕ) (bs : List ℕ) (ts : List Name) (rest : List ℕ) → eqb 41 b ≡ true → ◌≡◌ {A = Parsed (List Name)} (Some ([], bs)) (Some (ts, rest)) → TermsOf most (b ∷ bs) ts rest
 no_terms most b bs ts rest t f =
-    let p = some_parts [] ts bs rest f in
     let e : 41 ≡ b = grind arith in
-    let k : length ts ≤ most = omega (arith, ap length p.0) in
-    (ap (λ x. x ∷ bs) (sym e) ∙ (λ i. more_terms (p.0 i) ++ 41 ∷ p.1 i), subst (AllByRecursion GoodName) p.0 tt, k)
+    subst (λ q. TermsOf most (b ∷ bs) q.0 q.1) (some_same f) (ap (λ x. x ∷ bs) (sym e), tt, omega arith)
 
 terms_of : (most : ℕ) (bytes : List ℕ) (ts : List Name) (rest : List ℕ) → terms_in most bytes ≡ Some (ts, rest) → TermsOf most bytes ts rest
 unfolding terms_in
-terms_of most [] ts rest e = absurd (let z : ◌≡◌ {A = ℕ} 0 1 = cc in omega arith)
+terms_of most [] ts rest e = absurd cc
 terms_of zero (b ∷ bs) ts rest e = go (eqb 41 b) refl e
   where
     go : (t : Bool) → eqb 41 b ≡ t → cond {A = Parsed (List Name)} t (Some ([], bs)) None ≡ Some (ts, rest) → TermsOf 0 (b ∷ bs) ts rest
     go true t f = no_terms 0 b bs ts rest t f
-    go false t f = absurd (let z : ◌≡◌ {A = ℕ} 0 1 = cc in omega arith)
+    go false t f = absurd cc
 terms_of (suc most) (b ∷ bs) ts rest e = go (eqb 41 b) refl (eqb 44 b) refl e (terms_of most)
   where
     go : (t : Bool) → eqb 41 b ≡ t → (u : Bool) → eqb 44 b ≡ u →
         cond {A = Parsed (List Name)} t (Some ([], bs)) (cond u (then (name_in bs) λ t r. then (terms_in most r) λ us behind. Some (t ∷ us, behind)) None) ≡ Some (ts, rest) →
         ((bytes : List ℕ) (ts : List Name) (rest : List ℕ) → terms_in most bytes ≡ Some (ts, rest) → TermsOf most bytes ts rest) → TermsOf (suc most) (b ∷ bs) ts rest
     go true t u v f ih = no_terms (suc most) b bs ts rest t f
-    go false t false v f ih = absurd (let z : ◌≡◌ {A = ℕ} 0 1 = cc in omega arith)
+    go false t false v f ih = absurd cc
     go false t true v f ih =
         let p = then_some (name_in bs) _ _ f in
         let q = then_some (terms_in most p.1) _ _ p.3 in
-        let r = some_parts (p.0 ∷ q.0) ts q.1 rest q.3 in
         let n = name_of bs p.0 p.1 p.2 in
         let m = ih p.1 q.0 q.1 q.2 in
-        let e : 44 ≡ b = grind arith in (
-          ap (λ x. x ∷ bs) (sym e) ∙ ap (λ x. 44 ∷ x) (n.0 ∙ ap (λ x. p.0 ++ x) m.0 ∙ sym (append_assoc p.0 (more_terms q.0) (41 ∷ q.1))) ∙ (λ i. more_terms (r.0 i) ++ 41 ∷ r.1 i),
-          subst (AllByRecursion GoodName) r.0 (n.1, m.1),
-          (let k = m.2 in omega (arith, ap length r.0)),
-        )
+        let e : 44 ≡ b = grind arith in
+        let k = m.2 in
+        subst (λ x. TermsOf (suc most) (b ∷ bs) x.0 x.1) (some_same q.3)
+        (ap (λ x. x ∷ bs) (sym e) ∙ ap (λ x. 44 ∷ x) (n.0 ∙ ap (λ x. p.0 ++ x) m.0 ∙ sym (append_assoc p.0 (more_terms q.0) (41 ∷ q.1))), (n.1, m.1), omega arith)
 
 credential_at : (c : Credential) (rest : List ℕ) → GoodCredential c → credential_in (credential_bytes c ++ rest) ≡ Some (c, rest)
 unfolding credential_in
@@ -73,9 +69,7 @@ credential_at c rest g =
     ) refl
 
 credential_joined : (bytes b1 b2 b3 b4 b5 rest : List ℕ) (c : Credential) → bytes ≡ c.issuer ++ b1 → b1 ≡ 46 ∷ b2 → b2 ≡ c.name ++ b3 → b3 ≡ 40 ∷ b4 → b4 ≡ c.term ++ b5 → b5 ≡ more_terms c.terms ++ 41 ∷ rest → bytes ≡ credential_bytes c ++ rest
-credential_joined bytes b1 b2 b3 b4 b5 rest c e1 e2 e3 e4 e5 e6 =
-    let all : credential_bytes c ++ rest ≡ c.issuer ++ 46 ∷ (c.name ++ 40 ∷ (c.term ++ (more_terms c.terms ++ 41 ∷ rest))) = simp append_assoc in
-    e1 ∙ ap (λ b. c.issuer ++ b) (e2 ∙ ap (λ b. 46 ∷ b) (e3 ∙ ap (λ b. c.name ++ b) (e4 ∙ ap (λ b. 40 ∷ b) (e5 ∙ ap (λ b. c.term ++ b) e6)))) ∙ sym all
+credential_joined bytes b1 b2 b3 b4 b5 rest c e1 e2 e3 e4 e5 e6 = rw (e1, e2, e3, e4, e5, e6) (simp append_assoc)
 
 credential_of_lem : (bytes : List ℕ) (c : Credential) (rest : List ℕ) → credential_in bytes ≡ Some (c, rest) → (bytes ≡ credential_bytes c ++ rest) × GoodCredential c
 unfolding credential_in
@@ -87,7 +81,6 @@ credential_of_lem bytes c rest e =
     let p5 = then_some (name_in p4.1) _ _ p4.3 in
     let p6 = then_some (terms_in 3 p5.1) _ _ p5.3 in
     let made : Credential = record { issuer = p1.0; name = p3.0; term = p5.0; terms = p6.0 } in
-    let r = some_parts made c p6.1 rest p6.3 in
     let n1 = name_of bytes p1.0 p1.1 p1.2 in
     let w2 = word_of (codes ".") p1.1 p2.1 p2.2 in
     let n3 = name_of p2.1 p3.0 p3.1 p3.2 in
@@ -96,7 +89,7 @@ credential_of_lem bytes c rest e =
     let t6 = terms_of 3 p5.1 p6.0 p6.1 p6.2 in
     let whole = credential_joined bytes p1.1 p2.1 p3.1 p4.1 p5.1 p6.1 made n1.0 w2 n3.0 w4 n5.0 t6.0 in
     let good : GoodCredential made = record { issuer = n1.1; name = n3.1; term = n5.1; terms = t6.1; few = t6.2 } in
-    (whole ∙ (λ j. credential_bytes (r.0 j) ++ r.1 j), subst GoodCredential r.0 good)
+    subst (λ q. (bytes ≡ credential_bytes q.0 ++ q.1) × GoodCredential q.0) (some_same p6.3) (whole, good)
 
 pub item_at_lem : (i : ItemText) (rest : List ℕ) → GoodItem i → Stop rest → item_in (item_bytes i ++ rest) ≡ Some (i, rest)
 unfolding item_in
@@ -114,9 +107,7 @@ item_at_lem i rest g s =
     ) refl
 
 item_joined : (bytes b1 b2 b3 b4 rest : List ℕ) (i : ItemText) → bytes ≡ i.source ++ b1 → b1 ≡ 94 ∷ b2 → b2 ≡ credential_bytes i.credential ++ b3 → b3 ≡ 62 ∷ b4 → b4 ≡ i.destination ++ rest → bytes ≡ item_bytes i ++ rest
-item_joined bytes b1 b2 b3 b4 rest i e1 e2 e3 e4 e5 =
-    let all : item_bytes i ++ rest ≡ i.source ++ 94 ∷ (credential_bytes i.credential ++ 62 ∷ (i.destination ++ rest)) = simp append_assoc in
-    e1 ∙ ap (λ b. i.source ++ b) (e2 ∙ ap (λ b. 94 ∷ b) (e3 ∙ ap (λ b. credential_bytes i.credential ++ b) (e4 ∙ ap (λ b. 62 ∷ b) e5))) ∙ sym all
+item_joined bytes b1 b2 b3 b4 rest i e1 e2 e3 e4 e5 = rw (e1, e2, e3, e4, e5) (simp append_assoc)
 
 pub item_of : (bytes : List ℕ) (i : ItemText) (rest : List ℕ) → item_in bytes ≡ Some (i, rest) → (bytes ≡ item_bytes i ++ rest) × GoodItem i × Stop rest
 unfolding item_in
@@ -127,7 +118,6 @@ item_of bytes i rest e =
     let p4 = then_some (word_in (codes ">") p3.1) _ _ p3.3 in
     let p5 = then_some (name_in p4.1) _ _ p4.3 in
     let made : ItemText = record { source = p1.0; credential = p3.0; destination = p5.0 } in
-    let r = some_parts made i p5.1 rest p5.3 in
     let n1 = name_of bytes p1.0 p1.1 p1.2 in
     let w2 = word_of (codes "^") p1.1 p2.1 p2.2 in
     let c3 = credential_of_lem p2.1 p3.0 p3.1 p3.2 in
@@ -135,4 +125,4 @@ item_of bytes i rest e =
     let n5 = name_of p4.1 p5.0 p5.1 p5.2 in
     let good : GoodItem made = record { source = n1.1; credential = c3.1; destination = n5.1 } in
     let whole = item_joined bytes p1.1 p2.1 p3.1 p4.1 p5.1 made n1.0 w2 c3.0 w4 n5.0 in
-    (whole ∙ (λ j. item_bytes (r.0 j) ++ r.1 j), subst GoodItem r.0 good, subst Stop r.1 n5.2)
+    subst (λ q. (bytes ≡ item_bytes q.0 ++ q.1) × GoodItem q.0 × Stop q.1) (some_same p5.3) (whole, good, n5.2)

@@ -28,38 +28,36 @@ cut_item before i after =
       source = cut_between text before s (94 ∷ (c ++ 62 ∷ (d ++ after))) (length before) (length s) (ap (λ b. before ++ b) (simp append_assoc)) refl refl;
       credential =
           cut_between text (before ++ (s ++ 94 ∷ [])) c (62 ∷ (d ++ after)) (length before + length s + 1) (credential_size i.credential) (simp append_assoc)
-          (omega (arith, length-append before (s ++ 94 ∷ []), length-append s (94 ∷ []))) refl;
+          (simp length-append (omega arith)) refl;
       destination =
           cut_between text (before ++ (s ++ 94 ∷ (c ++ 62 ∷ []))) d after (length before + length s + 1 + credential_size i.credential + 1) (length d) (simp append_assoc)
-          (omega (arith, length-append before (s ++ 94 ∷ (c ++ 62 ∷ [])), length-append s (94 ∷ (c ++ 62 ∷ [])), length-append c (62 ∷ []))) refl;
+          (simp length-append (omega arith)) refl;
     }
 
 cut_body : (before : List ℕ) (h b : ItemText) (bs : List ItemText) (after : List ℕ) →
     drop (length before + length (item_bytes h) + 4) (before ++ (item_bytes h ++ (codes " if " ++ (item_bytes b ++ (more_items bs ++ after))))) ≡ item_bytes b ++ (more_items bs ++ after)
 cut_body before h b bs after =
     let rest = item_bytes b ++ (more_items bs ++ after) in
-    let e : before ++ (item_bytes h ++ (codes " if " ++ rest)) ≡ (before ++ (item_bytes h ++ codes " if ")) ++ rest =
-    ap (λ x. before ++ x) (sym (append_assoc (item_bytes h) (codes " if ") rest)) ∙ sym (append_assoc before (item_bytes h ++ codes " if ") rest) in
+    let e : before ++ (item_bytes h ++ (codes " if " ++ rest)) ≡ (before ++ (item_bytes h ++ codes " if ")) ++ rest = simp append_assoc in
     ap (drop (length before + length (item_bytes h) + 4)) e
     ∙ drop_at (before ++ (item_bytes h ++ codes " if ")) rest (length before + length (item_bytes h) + 4)
-    (omega (arith, length-append before (item_bytes h ++ codes " if "), length-append (item_bytes h) (codes " if ")))
+    (simp length-append (omega arith))
 
 -- an item behind a keyword
 behind_word : (before word : List ℕ) (i : ItemText) (rest text : List ℕ) (place : ℕ) → text ≡ (before ++ word) ++ (item_bytes i ++ rest) → place ≡ length (before ++ word) → ItemCut text (item_parts place i) i
-behind_word before word i rest text place e p =
-    subst (λ t. ItemCut t (item_parts place i) i) (sym e) (subst (λ k. ItemCut ((before ++ word) ++ (item_bytes i ++ rest)) (item_parts k i) i) (sym p) (cut_item (before ++ word) i rest))
+behind_word before word i rest text place e p = rw (e, p) (cut_item (before ++ word) i rest)
 
 cut_line : (before : List ℕ) (l : LineText) (after : List ℕ) → LineCut (before ++ (line_bytes l ++ after)) (line_parts (length before) l) l
 cut_line before (LineText.party n) after =
-    cut_between (before ++ (line_bytes (LineText.party n) ++ after)) (before ++ codes "party ") n (codes "\n" ++ after) (length before + 6) (length n) (simp append_assoc) (omega (arith, length-append before (codes "party "))) refl
-cut_line before (LineText.hold i) after = behind_word before (codes "hold ") i (codes "\n" ++ after) _ (length before + 5) (simp append_assoc) (omega (arith, length-append before (codes "hold ")))
-cut_line before (LineText.ask i) after = behind_word before (codes "ask ") i (codes "\n" ++ after) _ (length before + 4) (simp append_assoc) (omega (arith, length-append before (codes "ask ")))
+    cut_between (before ++ (line_bytes (LineText.party n) ++ after)) (before ++ codes "party ") n (codes "\n" ++ after) (length before + 6) (length n) (simp append_assoc) (simp length-append (omega arith)) refl
+cut_line before (LineText.hold i) after = behind_word before (codes "hold ") i (codes "\n" ++ after) _ (length before + 5) (simp append_assoc) (simp length-append (omega arith))
+cut_line before (LineText.ask i) after = behind_word before (codes "ask ") i (codes "\n" ++ after) _ (length before + 4) (simp append_assoc) (simp length-append (omega arith))
 cut_line before (LineText.rule h b bs) after =
     let text = before ++ (line_bytes (LineText.rule h b bs) ++ after) in
     let front = before ++ codes "rule " in
     let rest = item_bytes b ++ (more_items bs ++ (codes "\n" ++ after)) in
     let e : text ≡ front ++ (item_bytes h ++ (codes " if " ++ rest)) = simp append_assoc in
-    let p : length before + 5 ≡ length front = omega (arith, length-append before (codes "rule ")) in (
+    let p : length before + 5 ≡ length front = simp length-append (omega arith) in (
       behind_word before (codes "rule ") h (codes " if " ++ rest) text (length before + 5) e p,
       (codes "\n" ++ after, ap (drop (length before + 5 + item_size h + 4)) e ∙ ap (λ k. drop (k + item_size h + 4) (front ++ (item_bytes h ++ (codes " if " ++ rest)))) p ∙ cut_body front h b bs (codes "\n" ++ after)),
       refl,

@@ -1,13 +1,10 @@
 pub mod Names
 pub mod Runs
-pub mod Cuts
 pub mod Items
 pub mod Lines
 pub mod Steps
-pub mod SignWords
-pub mod Terms
-pub mod Chains
-pub mod Words
+pub mod Signs
+pub mod Singles
 pub mod Bodies
 pub mod Forms
 pub mod Laws

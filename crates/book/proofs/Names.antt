@@ -1,5 +1,5 @@
 -- Names and words are read as they are written.
-use Rattle.std.proofs.Common.{◌≡◌, ℕ, Bool, true, false, cond, T, List, [], ◌∷◌, ◌++◌, Some, None, Option, refl, ap, ◌∙◌, subst, arith}
+use Rattle.std.proofs.Common.{◌≡◌, ℕ, Bool, true, false, cond, T, List, [], ◌∷◌, ◌++◌, Some, None, Option, refl, ap, subst, arith}
 use Rattle.std.specs.List.{AllByRecursion}
 use Rattle.book.specs.Grammar.{name_byte, NameEnds, Name, GoodName}
 use Rattle.book.specs.Reading.{Parsed, then, run, name_start, name_in, word_in}
@@ -9,14 +9,14 @@ abbrev pub Stop : List ℕ → Type 0
 Stop bytes = NameEnds bytes
 
 pub then_some : {A B : Type 0} (p : Parsed A) (f : A → List ℕ → Parsed B) (q : B × List ℕ) → then p f ≡ Some q → (a : A) × (rest : List ℕ) × (p ≡ Some (a, rest)) × (f a rest ≡ Some q)
-then_some None f q e = absurd (let z : ◌≡◌ {A = ℕ} 0 1 = cc in omega arith)
+then_some None f q e = absurd cc
 then_some (Some p) f q e = (p.0, p.1, refl, e)
 
 pub then_at : {A B : Type 0} {a : A} {rest : List ℕ} (p : Parsed A) (f : A → List ℕ → Parsed B) → p ≡ Some (a, rest) → then p f ≡ f a rest
 then_at {a = a} {rest = rest} p f e = ap (λ o. then o f) e
 
-pub some_parts : {A B : Type 0} (a c : A) (b d : B) → ◌≡◌ {A = Option (A × B)} (Some (a, b)) (Some (c, d)) → (a ≡ c) × (b ≡ d)
-some_parts {A} {B} a c b d e = let p : ◌≡◌ {A = A × B} (a, b) (c, d) = cc in (ap (λ q. q.0) p, ap (λ q. q.1) p)
+pub some_same : {A : Type 0} {x y : A} → ◌≡◌ {A = Option A} (Some x) (Some y) → x ≡ y
+some_same e = cc
 
 pub run_at : (n rest : List ℕ) → AllByRecursion (λ c. T (name_byte c)) n → Stop rest → run (n ++ rest) ≡ (n, rest)
 run_at [] [] h s = refl
@@ -33,14 +33,10 @@ run_good (b ∷ bs) = let ih = run_good bs in grind arith
 
 run_stop : (bytes : List ℕ) → Stop (run bytes).1
 run_stop [] = tt
-run_stop (b ∷ bs) = go (name_byte b) refl (run_stop bs)
-  where
-    go : (t : Bool) → name_byte b ≡ t → Stop (run bs).1 → Stop (cond {A = List ℕ × List ℕ} t (b ∷ (run bs).0, (run bs).1) ([], b ∷ bs)).1
-    go true e ih = ih
-    go false e ih = e
+run_stop (b ∷ bs) = let ih = run_stop bs in grind arith
 
 good_is : (n : Name) → AllByRecursion (λ c. T (name_byte c)) n → name_start n ≡ true → GoodName n
-good_is [] h e = absurd (let z : ◌≡◌ {A = ℕ} 0 1 = cc in omega arith)
+good_is [] h e = absurd cc
 good_is (b ∷ bs) h e = ((grind arith), h.1, (grind arith))
 
 is_good : (n : Name) → GoodName n → name_start n ≡ true
@@ -60,10 +56,8 @@ unfolding name_in
 name_of bytes n rest e = go (name_start (run bytes).0) refl e
   where
     go : (t : Bool) → name_start (run bytes).0 ≡ t → cond {A = Parsed Name} t (Some (run bytes)) None ≡ Some (n, rest) → (bytes ≡ n ++ rest) × GoodName n × Stop rest
-    go true g f =
-        let p = some_parts (run bytes).0 n (run bytes).1 rest f in
-        (run_whole bytes ∙ (λ i. p.0 i ++ p.1 i), subst GoodName p.0 (good_is (run bytes).0 (run_good bytes) g), subst Stop p.1 (run_stop bytes))
-    go false g f = absurd (let z : ◌≡◌ {A = ℕ} 0 1 = cc in omega arith)
+    go true g f = subst (λ q. (bytes ≡ q.0 ++ q.1) × GoodName q.0 × Stop q.1) (some_same f) (run_whole bytes, good_is (run bytes).0 (run_good bytes) g, run_stop bytes)
+    go false g f = absurd cc
 
 pub word_at : (w rest : List ℕ) → word_in w (w ++ rest) ≡ Some (tt, rest)
 unfolding word_in
@@ -72,6 +66,6 @@ word_at (w ∷ ws) rest = let ih = word_at ws rest in grind arith
 
 pub word_of : (w bytes rest : List ℕ) → word_in w bytes ≡ Some (tt, rest) → bytes ≡ w ++ rest
 unfolding word_in
-word_of [] bytes rest e = (some_parts tt tt bytes rest e).1
-word_of (w ∷ ws) [] rest e = absurd (let z : ◌≡◌ {A = ℕ} 0 1 = cc in omega arith)
+word_of [] bytes rest e = ap (λ q. q.1) (some_same e)
+word_of (w ∷ ws) [] rest e = absurd cc
 word_of (w ∷ ws) (b ∷ bs) rest e = let ih = word_of ws bs rest in grind arith

@@ -1,33 +1,25 @@
--- The longest front of name bytes, found from left to right.
-use Rattle.std.proofs.Common.{◌≡◌, ℕ, ◌+◌, ◌<◌, ◌≤◌, true, false, cond, ◌&&◌, T, leb, ◌⊎◌, List, [], ◌∷◌, length, get_or, take, drop, Some, None, sym, refl, ap, ◌∙◌, subst, inl, inr, arith, length-append}
-use Rattle.std.specs.List.{AllByRecursion}
-use Rattle.std.proofs.ByRecursion.{All-push}
-use Rattle.std.proofs.lemmas.List.{take-append-drop, take_all, take_more, drop_more, drop_all, length-take-le}
-use Rattle.book.specs.Grammar.{name_byte}
+-- The longest front of name bytes, and the length of a name.
+use Rattle.std.proofs.Common.{◌≡◌, ℕ, ◌+◌, ◌≤◌, Bool, cond, not, ◌&&◌, leb, ltb, List, [], ◌∷◌, length, Some, None, Option, refl, ap, ◌∙◌, arith, length-append, length-drop}
+use Rattle.std.specs.Option.{unwrap_or}
+use Rattle.std.specs.Char.{is_ascii_alphanumeric}
+use Rattle.std.specs.List.{position_or_len}
+use Rattle.std.proofs.lemmas.List.Recursion.{is_position_or_len}
+use Rattle.book.specs.declared.reader.Reader.{Reader}
 use Rattle.book.specs.Reading.{run, name_start, name_in}
-use Rattle.book.specs.Places.{letter_first, name_size}
-use Rattle.book.proofs.Names.{Stop, run_at, run_whole}
+use Rattle.book.specs.Places.{left, letter_first, name_size}
+use Rattle.book.proofs.Names.{run_whole}
 
-abbrev NameBytes : List ℕ → Type 0
-NameBytes bs = AllByRecursion (λ b. T (name_byte b)) bs
+abbrev pub ends_name : ℕ → Bool
+ends_name b = not (is_ascii_alphanumeric b)
 
-run_front : (bytes : List ℕ) (i : ℕ) → NameBytes (take i bytes) → Stop (drop i bytes) → (run bytes).0 ≡ take i bytes
-run_front bytes i h s = ap (λ b. (run b).0) (sym (take-append-drop i bytes)) ∙ ap (λ p. p.0) (run_at (take i bytes) (drop i bytes) h s)
+run_ends : (bytes : List ℕ) → length (run bytes).0 ≡ position_or_len ends_name bytes
+run_ends bytes = is_position_or_len (λ b. length (run b).0) ends_name refl (λ x xs. grind arith) bytes
 
-pub run_until : (bytes : List ℕ) (i : ℕ) → i < length bytes → NameBytes (take i bytes) → name_byte (get_or bytes i 0) ≡ false → i ≡ length (run bytes).0
-run_until bytes i l h e =
-    let s : Stop (drop i bytes) = subst Stop (sym (drop_more bytes i 0 l)) e in
-    sym (ap length (run_front bytes i h s) ∙ length-take-le i bytes (omega arith))
-
-pub run_all : (bytes : List ℕ) (i : ℕ) → length bytes ≤ i → NameBytes (take i bytes) → length bytes ≡ length (run bytes).0
-run_all bytes i l h =
-    let s : Stop (drop i bytes) = subst Stop (sym (drop_all i bytes l)) tt in
-    sym (ap length (run_front bytes i h s ∙ take_all i bytes l))
-
-pub run_more : (bytes : List ℕ) (i : ℕ) → i < length bytes → NameBytes (take i bytes) → name_byte (get_or bytes i 0) ≡ true → NameBytes (take (i + 1) bytes)
-run_more bytes i l h e =
-    let t : T (name_byte (get_or bytes i 0)) = subst T (sym e) tt in
-    subst NameBytes (sym (take_more bytes i 0 l)) (All-push (λ b. T (name_byte b)) (take i bytes) (get_or bytes i 0) h t)
+pub run_position : (bytes : List ℕ) (o : Option ℕ) (n : ℕ) → o ≡ cond (ltb (position_or_len ends_name bytes) (length bytes)) (Some (position_or_len ends_name bytes)) None → n ≡ unwrap_or o (length bytes) → n ≡ length (run bytes).0
+run_position bytes o n e f =
+    let r = run_ends bytes in
+    let w = ap length (run_whole bytes) ∙ length-append (run bytes).0 (run bytes).1 in
+    grind arith
 
 good_front : (bytes : List ℕ) → name_start (run bytes).0 ≡ (letter_first bytes && leb (length (run bytes).0) 16)
 good_front [] = refl
@@ -38,15 +30,11 @@ pub name_size_lem : (bytes : List ℕ) → name_size (name_in bytes) ≡ cond (l
 unfolding name_in
 name_size_lem bytes = let e = good_front bytes in grind arith
 
-pub is_name : (bytes : List ℕ) (n : ℕ) → n ≡ length (run bytes).0 → letter_first bytes ≡ true → n ≤ 16 → Some n ≡ name_size (name_in bytes)
-is_name bytes n e l h = let s = name_size_lem bytes in grind arith
-
-pub no_name : (bytes : List ℕ) (n : ℕ) → n ≡ length (run bytes).0 → ((letter_first bytes ≡ true) × (16 < n)) ⊎ (letter_first bytes ≡ false) → None ≡ name_size (name_in bytes)
-no_name bytes n e (inl p) = let s = name_size_lem bytes in let l = p.0 in let h = p.1 in grind arith
-no_name bytes n e (inr l) = let s = name_size_lem bytes in grind arith
-
-pub name_within : (bytes : List ℕ) (n : ℕ) → Some n ≡ name_size (name_in bytes) → n ≤ length bytes
+-- a name ends within the text
+pub name_within : (r : Reader) (bytes : List ℕ) (n : ℕ) → bytes ≡ left r → Some n ≡ name_size (name_in bytes) → r.place + n ≤ length r.text.now
 unfolding name_in
-name_within bytes n e =
+name_within r bytes n b e =
     let w = ap length (run_whole bytes) ∙ length-append (run bytes).0 (run bytes).1 in
-    grind arith
+    let k : n ≤ length bytes = grind arith in
+    let p = r.within in
+    omega (arith, ap length b ∙ length-drop r.place r.text.now)

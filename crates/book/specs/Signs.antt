@@ -5,10 +5,6 @@ use Rattle.book.specs.declared.reader.items.Sign.TheVariants.{Caret, Dot, Open, 
 use Rattle.book.specs.Grammar.{Name, more_terms}
 use Rattle.book.specs.Reading.{Parsed}
 
-abbrev pub first_of : List ℕ → Option ℕ
-first_of [] = None
-first_of (b ∷ bs) = Some b
-
 abbrev pub sign_of : ℕ → Option Sign
 sign_of c =
     cond (c == 94) (Some Caret)

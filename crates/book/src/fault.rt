@@ -22,12 +22,12 @@ pub enum Fault {
     SecondAsk,
 }
 
-impl Fault {
-    /// The number that stands for this fault outside the program.
-    pub fn number(self) -> u8
-        ensures { result ≡ fault_number self }
-    {
-        match self {
+impl From<Fault> for u8 {
+    ghost from_gives = { λ f n. n ≡ fault_number f };
+
+    /// The number that stands for a fault outside the program.
+    fn from(fault: Fault) -> u8 {
+        match fault {
             Fault::TooLong => 1,
             Fault::NoForm => 2,
             Fault::OneLetter => 3,

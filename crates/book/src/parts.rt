@@ -2,6 +2,7 @@ ghost use Rattle.std.specs.Prelude.{◌≡◌};
 ghost use Rattle.book.specs.Laws.{cut_out};
 
 /// A part of the text: where it begins, and how many bytes it has.
+// No slice: parts are kept in fixed memory without the text.
 #[derive(Clone, Copy, PartialEq, Eq, Debug)]
 pub struct Part {
     pub place: usize,
@@ -25,7 +26,7 @@ pub struct ItemParts {
     pub source: Part,
     pub credential: Part,
     pub destination: Part,
-    /// Whether some name of the item is a single letter.
+    /// Whether some name of the item is a single letter. The parts count whatever it says.
     pub single: bool,
 }
 

@@ -138,15 +138,15 @@ fn line_after_line(rt: HostRuntime) {
 
 #[test]
 fn numbers_of_faults(rt: HostRuntime) {
-    assert_eq!(rt; Fault::TooLong.number(), 1);
+    assert_eq!(rt; u8::from(Fault::TooLong), 1);
     assert_eq!(rt; line_of(b"?"), Err(Fault::NoForm));
-    assert_eq!(rt; Fault::NoForm.number(), 2);
-    assert_eq!(rt; Fault::OneLetter.number(), 3);
-    assert_eq!(rt; Fault::EnrolledBefore.number(), 4);
-    assert_eq!(rt; Fault::NotEnrolled.number(), 5);
-    assert_eq!(rt; Fault::Strange.number(), 6);
-    assert_eq!(rt; Fault::TooMany.number(), 7);
-    assert_eq!(rt; Fault::SecondAsk.number(), 8);
+    assert_eq!(rt; u8::from(Fault::NoForm), 2);
+    assert_eq!(rt; u8::from(Fault::OneLetter), 3);
+    assert_eq!(rt; u8::from(Fault::EnrolledBefore), 4);
+    assert_eq!(rt; u8::from(Fault::NotEnrolled), 5);
+    assert_eq!(rt; u8::from(Fault::Strange), 6);
+    assert_eq!(rt; u8::from(Fault::TooMany), 7);
+    assert_eq!(rt; u8::from(Fault::SecondAsk), 8);
     assert!(rt; Reader::new(b"ab", 2).at_end());
     assert!(rt; Reader::new(b"ab", 3).at_end());
     assert!(rt; !Reader::new(b"ab", 1).at_end());

@@ -1,3 +1,4 @@
 mod Lines
 mod Prefix
 mod Printed
+mod Putting

@@ -1,14 +1,9 @@
 -- Lines put one behind the other.
 use Rattle.std.proofs.Common.{◌≡◌, ℕ, ◌+◌, ◌<◌, ◌≤◌, List, [], ◌∷◌, ◌++◌, length, get_or, take, codes, decimal, sym, ap, ◌∙◌, append_assoc, append-nil, arith}
 use Rattle.std.specs.List.{flat_map}
+use Rattle.std.proofs.lemmas.Grind.{flat_map-append}
 use Rattle.std.proofs.lemmas.List.{take_all, take_more, length-take-le}
-use Rattle.book_check.specs.Report.{numbered_line, numbered, spaced, body_line}
-
--- the three parts of a numbered line
-pub numbered-line : (word : List ℕ) (n : ℕ) (writing before out1 out2 out3 front : List ℕ) → front ≡ word ++ (codes " " ++ (decimal n ++ codes " ")) → out1 ≡ before ++ front → out2 ≡ out1 ++ writing → out3 ≡ out2 ++ codes "\n" →
-    out3 ≡ before ++ numbered_line word n writing
-numbered-line word n writing before out1 out2 out3 front e a b c =
-    c ∙ ap (λ x. x ++ codes "\n") (b ∙ ap (λ x. x ++ writing) (a ∙ ap (λ x. before ++ x) e)) ∙ simp append_assoc
+use Rattle.book_check.specs.Report.{numbered, spaced, body_line}
 
 module _ {X : Type 0} (line : ℕ → X → List ℕ) where
   numbered_push : (n : ℕ) (xs : List X) (x : X) (m : ℕ) → m ≡ n + length xs → numbered line n (xs ++ x ∷ []) ≡ numbered line n xs ++ line m x
@@ -25,14 +20,10 @@ module _ {X : Type 0} (line : ℕ → X → List ℕ) where
       f ∙ ap (λ b. b ++ line i x) e ∙ append_assoc before (numbered line 0 (take i xs)) (line i x) ∙ ap (λ b. before ++ b)
       (sym (numbered_push 0 (take i xs) x i (omega arith)) ∙ ap (numbered line 0) (sym (take_more xs i d l)))
 
-  pub numbered_all : (xs : List X) (i : ℕ) (before after : List ℕ) → length xs ≤ i → after ≡ before ++ numbered line 0 (take i xs) → after ≡ before ++ numbered line 0 xs
-  numbered_all xs i before after l e = e ∙ ap (λ x. before ++ numbered line 0 x) (take_all i xs l)
-
 -- the same for lines without numbers
 module _ {X : Type 0} (line : X → List ℕ) where
   joined_push : (xs : List X) (x : X) → flat_map line (xs ++ x ∷ []) ≡ flat_map line xs ++ line x
-  joined_push [] x = append-nil (line x)
-  joined_push (y ∷ ys) x = ap (λ l. line y ++ l) (joined_push ys x) ∙ sym (append_assoc (line y) (flat_map line ys) (line x))
+  joined_push xs x = flat_map-append line xs (x ∷ []) ∙ ap (λ l. flat_map line xs ++ l) (append-nil (line x))
 
   pub joined_more_of : (xs : List X) (i : ℕ) (d : X) (before so_far after : List ℕ) → i < length xs → so_far ≡ before ++ flat_map line (take i xs) → after ≡ so_far ++ line (get_or xs i d) → after ≡ before ++ flat_map line (take (i + 1) xs)
   joined_more_of xs i d before so_far after l e f =
@@ -48,6 +39,3 @@ pub body_line_lem : (head : ℕ) (body : List ℕ) (before out1 out2 out3 front 
 body_line_lem head [] before out1 out2 out3 front l e a b c = absurd (omega arith)
 body_line_lem head (n ∷ ns) before out1 out2 out3 front l e a b c =
     c ∙ ap (λ x. x ++ codes "\n") (b ∙ ap (λ x. x ++ flat_map spaced (n ∷ ns)) (a ∙ ap (λ x. before ++ x) e)) ∙ simp append_assoc
-
-pub four-parts : (before out1 out2 out3 out4 a b c d : List ℕ) → out1 ≡ before ++ a → out2 ≡ out1 ++ b → out3 ≡ out2 ++ c → out4 ≡ out3 ++ d → out4 ≡ before ++ (a ++ (b ++ (c ++ d)))
-four-parts before out1 out2 out3 out4 a b c d e f g h = h ∙ ap (λ x. x ++ d) (g ∙ ap (λ x. x ++ c) (f ∙ ap (λ x. x ++ b) e)) ∙ simp append_assoc

@@ -4,7 +4,6 @@ use Rattle.std.proofs.lemmas.List.{take_all, length-take-le}
 use Rattle.std.proofs.lemmas.Bool.{cases_lt, lt-ltb}
 use Rattle.book.specs.declared.fault.Fault.TheVariants.{TooLong}
 use Rattle.house.specs.Policies.{nothing}
-use Rattle.house.specs.Answer.{refusal_of}
 use Rattle.house.specs.Books.{lines_from, book_read}
 use Rattle.book_check.specs.Report.{listing, refusal_line, printed, PrefixLaw}
 
@@ -16,6 +15,6 @@ prefix_law book =
     elim (cases_lt 32769 (length book)) [
       | inl l ↦
           let k : length (take 32769 book) ≡ 32769 = length-take-le 32769 book (omega arith) in
-          ap (λ r. (elim r [ Ok v ↦ listing v | Err e ↦ refusal_line (refusal_of e) ])) (too_long (take 32769 book) (omega arith) ∙ sym (too_long book (omega arith)))
+          ap (λ r. (elim r [ Ok v ↦ listing v | Err e ↦ refusal_line e ])) (too_long (take 32769 book) (omega arith) ∙ sym (too_long book (omega arith)))
       | inr l ↦ ap printed (take_all 32769 book l)
     ]

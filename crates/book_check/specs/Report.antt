@@ -10,7 +10,6 @@ use Rattle.house.specs.declared.refusal.Refusal.{Refusal}
 use Rattle.house.specs.View.{RuleView, View}
 use Rattle.house.specs.Policies.{Enrolled, Written, Policies}
 use Rattle.house.specs.Books.{book_read}
-use Rattle.house.specs.Answer.{refusal_of}
 
 -- `party 0 Seal`: a word, a number and a writing
 abbrev pub numbered_line : List ℕ → ℕ → List ℕ → List ℕ
@@ -51,7 +50,7 @@ refusal_line e = codes "refusal " ++ (decimal (fault_number e.fault) ++ (codes "
 
 -- the listing of a book, or its refusal
 abbrev pub printed : List ℕ → List ℕ
-printed book = elim (book_read book) [ Ok v ↦ listing v | Err e ↦ refusal_line (refusal_of e) ]
+printed book = elim (book_read book) [ Ok v ↦ listing v | Err e ↦ refusal_line e ]
 
 -- the first 32,769 bytes decide, so no more of a book has to be read
 abbrev pub PrefixLaw : Type 0

@@ -2,6 +2,7 @@
 //! arguments, it does so for each, behind a line with the name; `-` is standard input.
 #![tactic(auto)]
 
+mod listing;
 mod report;
 
 use house::MOST_BYTES;

@@ -84,18 +84,24 @@ fn eight_a_second_ask(rt: HostRuntime) -> Result<(), Fail> {
             rt.alloc(),
             "ask Seal^Seal.open(Box7)>Port\nask Seal^Seal.open(Box7)>Port\n",
         )?,
-        (8, 5)
+        Err((8, 5))
     );
     Ok(())
 }
 
 #[test]
 fn the_first_faulty_line_decides(rt: HostRuntime) {
-    assert_eq!(rt; verdict(""), (0, 0));
-    assert_eq!(rt; verdict("party Seal\nparty Seal\nparty  Port\n"), (4, 2));
-    assert_eq!(rt; verdict("party Seal\nparty  Port\nparty Seal\n"), (2, 2));
+    assert_eq!(rt; verdict(""), Ok(()));
+    assert_eq!(rt;
+        verdict("party Seal\nparty Seal\nparty  Port\n"),
+        Err((4, 2))
+    );
+    assert_eq!(rt;
+        verdict("party Seal\nparty  Port\nparty Seal\n"),
+        Err((2, 2))
+    );
     assert_eq!(rt;
         verdict("hold Seal^Seal.open(Box7)>Seal\nparty Seal\n"),
-        (5, 1)
+        Err((5, 1))
     );
 }

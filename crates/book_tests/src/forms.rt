@@ -19,9 +19,9 @@ fn line_ends(rt: HostRuntime) -> Result<(), Fail> {
     fourth(&rt, "\n", 2)?;
     fourth(&rt, "hold Seal^Seal.open(Box7)>Port", 2)?;
     fine(&rt, "hold Seal^Seal.open(Box7)>Port\n")?;
-    assert_eq!(rt; verdict("party Seal"), (2, 1));
-    assert_eq!(rt; verdict("party Seal\n"), (0, 0));
-    assert_eq!(rt; verdict("\n"), (2, 1));
+    assert_eq!(rt; verdict("party Seal"), Err((2, 1)));
+    assert_eq!(rt; verdict("party Seal\n"), Ok(()));
+    assert_eq!(rt; verdict("\n"), Err((2, 1)));
     Ok(())
 }
 

@@ -22,7 +22,7 @@ fn one_letter_and_more(rt: HostRuntime) -> Result<(), Fail> {
     )?;
     fourth(&rt, many.as_str(), 3)?;
     let second = format!(in heap; "{ASK}ask Seal^Seal.open(x)>Port\n")?;
-    assert_eq!(rt; behind_three(heap, second.as_str())?, (3, 5));
+    assert_eq!(rt; behind_three(heap, second.as_str())?, Err((3, 5)));
     Ok(())
 }
 
@@ -32,7 +32,7 @@ fn enrolled_before_and_one_too_many(rt: HostRuntime) {
         verdict(
             "party Pa\nparty Pb\nparty Pc\nparty Pd\nparty Pe\nparty Pf\nparty Pg\nparty Ph\nparty Pi\nparty Pj\nparty Pk\nparty Pl\nparty Pm\nparty Pn\nparty Po\nparty Pp\nparty Pa\n",
         ),
-        (4, 17)
+        Err((4, 17))
     );
 }
 
@@ -49,7 +49,7 @@ fn not_enrolled_and_more(rt: HostRuntime) -> Result<(), Fail> {
     )?;
     fourth(&rt, many.as_str(), 5)?;
     let second = format!(in heap; "{ASK}ask Seal^Seal.open(Box7)>Ship\n")?;
-    assert_eq!(rt; behind_three(heap, second.as_str())?, (5, 5));
+    assert_eq!(rt; behind_three(heap, second.as_str())?, Err((5, 5)));
     Ok(())
 }
 

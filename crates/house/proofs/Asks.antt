@@ -1,5 +1,6 @@
 -- A line that asks for an item.
 use Rattle.std.proofs.Common.{◌≡◌, ℕ, ◌+◌, Bool, true, false, ◌&&◌, List, [], is_some, Some, Ok, Err, Result, sym, refl, ap, ◌∙◌, subst, arith}
+use Rattle.std.proofs.lemmas.Bool.{and_parts}
 use Rattle.table.specs.Held.{held}
 use Rattle.book.specs.declared.fault.Fault.{Fault}
 use Rattle.book.specs.declared.fault.Fault.TheVariants.{NotEnrolled, TooMany, SecondAsk}
@@ -17,7 +18,6 @@ use Rattle.house.proofs.Keeping.{kept_asked}
 use Rattle.house.proofs.Lookups.{enrolled_ends}
 use Rattle.house.proofs.Judged.{at_unknown, at_many, at_second, at_none, adds_fault, adds_line, many_items, not_many, few_parties, few_items, few_rules}
 use Rattle.house.proofs.Counts.{same_count}
-use Rattle.house.proofs.Sound.{both}
 
 module _ (text : List ℕ) (t : Tables) (v : Policies) (place : ℕ) (i : ItemText) (item : ItemParts) (f : Filled text t v) (a : LineAt text place (LineText.ask i)) (e : item ≡ item_parts (place + 4) i)
     (single : item.single ≡ false) (ends : Bool) (is : ends ≡ ends_enrolled text (held t.parties) item) where
@@ -44,7 +44,7 @@ module _ (text : List ℕ) (t : Tables) (v : Policies) (place : ℕ) (i : ItemTe
     known = let k = sym ends_are ∙ h in grind arith
 
     registering : (answer : Result ℕ Fault) (t1 : Tables) → Registers text t item answer t1 → Registered text v asked answer t1
-    registering answer t1 r = let k = both _ _ (sym ends_are ∙ h) in r v asked f e there k.0 k.1
+    registering answer t1 r = let k = and_parts _ _ (sym ends_are ∙ h) in r v asked f e there k.0 k.1
 
     pub ask_many : (after t1 : Tables) (g : Fault) → Registers text t item (Err g) t1 → Adds text v place line (Err g) after
     ask_many after t1 g r =

@@ -1,24 +1,19 @@
 -- Reading a book answers what its lines say.
-use Rattle.std.proofs.Common.{◌≡◌, ℕ, zero, suc, ◌+◌, ◌<◌, ◌≤◌, true, false, cond, ltb, ◌≢◌, List, [], ◌∷◌, ◌++◌, length, Some, None, Ok, Err, Option, Result, sym, refl, ap, ◌∙◌, subst, inl, inr, append_assoc, append-nil, arith, length-append}
+use Rattle.std.proofs.Common.{◌≡◌, ℕ, zero, suc, ◌+◌, ◌<◌, ◌≤◌, false, ltb, List, [], ◌∷◌, ◌++◌, length, Some, None, Ok, Err, Option, Result, sym, refl, ap, ◌∙◌, subst, inl, inr, append_assoc, append-nil, arith, length-append}
+use Rattle.std.proofs.lemmas.Bool.{ltb-false, lt-ltb, le-ltb, cond-true, cond-false}
 use Rattle.book.specs.declared.fault.Fault.{Fault}
-use Rattle.book.specs.declared.fault.Fault.TheVariants.{TooLong}
 use Rattle.book.specs.Grammar.{LineText, line_bytes, GoodLine}
 use Rattle.book.specs.Reading.{Parsed, line_in}
 use Rattle.book.specs.Lines.{line_size}
 use Rattle.book.proofs.Lines.{inverse_law}
+use Rattle.house.specs.declared.refusal.Refusal.{Refusal}
 use Rattle.house.specs.Policies.{Policies, nothing, with, fault_of}
-use Rattle.house.specs.Books.{FaultAt, unless, line_then, lines_from, book_read}
+use Rattle.house.specs.Books.{unless, line_then, lines_from, book_read}
 use Rattle.house.specs.RegisterLaw.{RegisterLaw}
 use Rattle.house.proofs.Stand.{lines_stand}
 use Rattle.house.proofs.Orderly.{lines_sorted, none_sorted, orderly}
 use Rattle.house.proofs.Smallest.{smallest_fault}
 use Rattle.house.specs.BookLaw.{lines_bytes, Front, NoLine, Faulty, Told, Stand, BookLaw}
-
-some_none : {A : Type 0} (x : A) → ¬ (Some x ≡ None)
-some_none x e = grind arith
-
-nonempty : {A : Type 0} (x : A) (xs : List A) → (x ∷ xs) ≢ []
-nonempty x xs e = grind arith
 
 -- no line is empty
 pub line_size_lem : (l : LineText) → 0 < line_size l
@@ -36,7 +31,7 @@ module _ (bytes : List ℕ) (v : Policies) (place line : ℕ) (l : LineText) (re
       record { writing = e ∙ ap (λ x. line_bytes l ++ x) f.writing ∙ sym (append_assoc (line_bytes l) (lines_bytes ls) behind); good = (g, f.good); says = (n, f.says) }
 
   -- what is told of the bytes behind a line without fault is told of the line and them
-  later : (r : Result Policies FaultAt) → Told rest (with v place l) (place + line_size l) (line + 1) r → Told bytes v place line r
+  later : (r : Result Policies Refusal) → Told rest (with v place l) (place + line_size l) (line + 1) r → Told bytes v place line r
   later (Ok after) t = (l ∷ t.0, front t.0 after [] t.1)
   later (Err f) t = let k = t.5 in (l ∷ t.0, t.1, t.2, front t.0 t.1 t.2 t.3, t.4, omega arith)
 
@@ -56,7 +51,7 @@ module _
     abbrev bytes : List ℕ
     bytes = b ∷ bs
 
-    abbrev more : List ℕ → ℕ → Policies → Result Policies FaultAt
+    abbrev more : List ℕ → ℕ → Policies → Result Policies Refusal
     more rest next w = lines_from most rest next (line + 1) w
 
     judged : (l : LineText) (rest : List ℕ) → bytes ≡ line_bytes l ++ rest → GoodLine l → (f : Option Fault) → fault_of v l ≡ f →
@@ -65,7 +60,7 @@ module _
     judged l rest e g (Some f) n = ([], v, bytes, here bytes v place, inr (l, rest, e, g, n), omega arith)
 
     parsed : (r : Parsed LineText) → line_in bytes ≡ r → Told bytes v place line (line_then r place line v more)
-    parsed None e = ([], v, bytes, here bytes v place, inl (refl, (nonempty b bs, (λ l rest w g. some_none (l, rest) (sym ((inverse_law bytes l rest).1 (w, g)) ∙ e)))), omega arith)
+    parsed None e = ([], v, bytes, here bytes v place, inl (refl, ((λ e. cc e), (λ l rest w g. cc (sym ((inverse_law bytes l rest).1 (w, g)) ∙ e)))), omega arith)
     parsed (Some p) e = let q = (inverse_law bytes p.0 p.1).0 e in judged p.0 p.1 q.0 q.1 (fault_of v p.0) refl
 
 outcome : (most : ℕ) (bytes : List ℕ) (place line : ℕ) (v : Policies) → length bytes ≤ most → Told bytes v place line (lines_from most bytes place line v)
@@ -105,9 +100,9 @@ pub at_end : (most place line : ℕ) (v : Policies) → lines_from most [] place
 at_end zero place line v = refl
 at_end (suc most) place line v = refl
 
-unread : (bytes : List ℕ) (r : Parsed LineText) → line_in bytes ≡ r → NoLine bytes → line_in bytes ≡ None
-unread bytes None e n = e
-unread bytes (Some p) e n = absurd (let q = (inverse_law bytes p.0 p.1).0 e in n.1 p.0 p.1 q.0 q.1)
+unread : (text : List ℕ) (r : Parsed LineText) → line_in text ≡ r → NoLine text → line_in text ≡ None
+unread text None e n = e
+unread text (Some p) e n = absurd (let q = (inverse_law text p.0 p.1).0 e in n.1 p.0 p.1 q.0 q.1)
 
 at_fault : (most : ℕ) (rest : List ℕ) (place line : ℕ) (v : Policies) (f : Fault) → length rest ≤ most → Faulty v rest f → lines_from most rest place line v ≡ Err (record { fault = f; line = line })
 at_fault most [] place line v f h (inl y) = absurd (y.1.0 refl)
@@ -118,7 +113,7 @@ at_fault (suc most) (b ∷ bs) place line v f h (inl y) =
 at_fault zero rest place line v f h (inr y) = absurd (let k = ap length y.2 ∙ length-append (line_bytes y.0) y.1 in let z = line_size_lem y.0 in omega arith)
 at_fault (suc most) rest place line v f h (inr y) = step most rest place line v y.0 y.1 y.2 y.3 (Some f) y.4
 
-answered : (text : List ℕ) (r : Result Policies FaultAt) → Told text nothing 0 1 r → lines_from (length text) text 0 1 nothing ≡ r
+answered : (text : List ℕ) (r : Result Policies Refusal) → Told text nothing 0 1 r → lines_from (length text) text 0 1 nothing ≡ r
 answered text (Ok w) t =
     let p = pass t.0 (length text) text 0 1 nothing w [] (omega arith) t.1 in
     p.3 ∙ at_end p.0 p.1 (1 + length t.0) w
@@ -129,27 +124,26 @@ answered text (Err e) t =
 stand : (text : List ℕ) (v : Policies) → Told text nothing 0 1 (Ok v) → Stand text v
 stand text v t = lines_stand text t.0 nothing v (t.1.writing ∙ append-nil (lines_bytes t.0)) t.1.good t.1.says (record { names = tt; items = tt })
 
-read_short : (text : List ℕ) (v : Policies) → book_read text ≡ Ok v → ltb 32768 (length text) ≡ false
+pub short_read : (text : List ℕ) → length text ≤ 32768 → book_read text ≡ lines_from (length text) text 0 1 nothing
+short_read text h = cond-false _ _ _ (le-ltb 32768 (length text) h)
+
+pub read_short : (text : List ℕ) (v : Policies) → book_read text ≡ Ok v → ltb 32768 (length text) ≡ false
 read_short text v e = grind arith
 
+ok_short : (text : List ℕ) (v : Policies) → book_read text ≡ Ok v → length text ≤ 32768
+ok_short text v e = ltb-false 32768 (length text) (read_short text v e)
+
+told : (text : List ℕ) (r : Result Policies Refusal) → length text ≤ 32768 → book_read text ≡ r → Told text nothing 0 1 r
+told text r h e = subst (Told text nothing 0 1) (sym (short_read text h) ∙ e) (outcome (length text) text 0 1 nothing (omega arith))
+
 pub register_law : RegisterLaw
-register_law text v e =
-    let b = read_short text v e in
-    let s : book_read text ≡ lines_from (length text) text 0 1 nothing = ap (λ c. cond c (Err (record { fault = TooLong; line = 0 })) (lines_from (length text) text 0 1 nothing)) b in
-    let t = subst (Told text nothing 0 1) (sym s ∙ e) (outcome (length text) text 0 1 nothing (omega arith)) in
-    orderly v (lines_sorted 0 t.0 nothing v t.1.says none_sorted)
+register_law text v e = let t = told text (Ok v) (ok_short text v e) e in orderly v (lines_sorted 0 t.0 nothing v t.1.says none_sorted)
 
 pub book_law : BookLaw
 book_law =
     record {
       smallest = smallest_fault;
-      long = λ text h. let b : ltb 32768 (length text) ≡ true = grind arith in ap (λ c. cond c (Err (record { fault = TooLong; line = 0 })) (lines_from (length text) text 0 1 nothing)) b;
-      short = λ text r h.
-          let b : ltb 32768 (length text) ≡ false = grind arith in
-          let s : book_read text ≡ lines_from (length text) text 0 1 nothing = ap (λ c. cond c (Err (record { fault = TooLong; line = 0 })) (lines_from (length text) text 0 1 nothing)) b in
-          ((λ e. subst (Told text nothing 0 1) (sym s ∙ e) (outcome (length text) text 0 1 nothing (omega arith))), (λ t. s ∙ answered text r t));
-      places = λ text v e.
-          let b = read_short text v e in
-          let s : book_read text ≡ lines_from (length text) text 0 1 nothing = ap (λ c. cond c (Err (record { fault = TooLong; line = 0 })) (lines_from (length text) text 0 1 nothing)) b in
-          stand text v (subst (Told text nothing 0 1) (sym s ∙ e) (outcome (length text) text 0 1 nothing (omega arith)));
+      long = λ text h. cond-true _ _ _ (lt-ltb 32768 (length text) h);
+      short = λ text r h. (told text r h, (λ t. short_read text h ∙ answered text r t));
+      places = λ text v e. stand text v (told text (Ok v) (ok_short text v e) e);
     }

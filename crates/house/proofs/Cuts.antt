@@ -1,16 +1,14 @@
 -- Parts of a text and the item at a place.
 use Rattle.std.proofs.Common.{◌≡◌, ℕ, min, true, eqb, List, [], ◌∷◌, length, drop, Some, None, Decides, Option, sym, refl, ap, ◌∙◌, inl, inr, arith, drop_of_length-le}
-use Rattle.std.proofs.lemmas.Bool.{cases_lt}
+use Rattle.std.proofs.lemmas.Bool.{cases_lt, and_parts}
 use Rattle.book.specs.declared.parts.ItemParts.{ItemParts}
 use Rattle.book.specs.declared.reader.Reader.{Reader}
 use Rattle.book.specs.Grammar.{ItemText}
 use Rattle.book.specs.Reading.{Parsed, name_in, item_in}
 use Rattle.book.specs.Places.{left, Reads, item_parts, item_size}
-use Rattle.book.proofs.Cuts.{drop_min}
+use Rattle.std.proofs.lemmas.List.{drop_min}
 use Rattle.house.specs.Filling.{item_at}
 use Rattle.house.specs.Policies.{same}
-use Rattle.house.proofs.Firsts.{some_none}
-use Rattle.house.proofs.Sound.{both}
 
 pub same_refl : (xs : List ℕ) → same xs xs ≡ true
 same_refl [] = refl
@@ -18,10 +16,10 @@ same_refl (x ∷ xs) = let r = same_refl xs in grind arith
 
 pub same_is : (xs ys : List ℕ) → same xs ys ≡ true → xs ≡ ys
 same_is [] [] h = refl
-same_is [] (y ∷ ys) h = absurd (let f : ⊥ = grind arith in f)
-same_is (x ∷ xs) [] h = absurd (let f : ⊥ = grind arith in f)
+same_is [] (y ∷ ys) h = cc
+same_is (x ∷ xs) [] h = cc
 same_is (x ∷ xs) (y ∷ ys) h =
-    let s = both (eqb x y) (same xs ys) h in
+    let s = and_parts (eqb x y) (same xs ys) h in
     let a : x ≡ y = grind arith in
     let b = same_is xs ys s.1 in
     cc
@@ -40,7 +38,7 @@ pub item_there : (text : List ℕ) (place : ℕ) (r : Reader) (answer : Option I
 item_there text place r answer after t p a = go (item_in (left r)) refl a
   where
     same_left : left r ≡ drop place text
-    same_left = ap (λ x. drop r.place x) t ∙ drop_min text place r.place p
+    same_left = ap (λ x. drop r.place x) t ∙ ap (λ k. drop k text) p ∙ drop_min place text
 
     shown : (o : Parsed ItemText) → item_in (drop place text) ≡ o → item_at text place ≡ (elim o [ None ↦ None | Some q ↦ Some (item_parts place q.0) ])
     shown o e = ap (λ x. (elim x [ None ↦ None | Some q ↦ Some (item_parts place q.0) ])) e
@@ -51,6 +49,6 @@ item_there text place r answer after t p a = go (item_in (left r)) refl a
         a.0
         ∙ elim (cases_lt place (length text)) [
           | inl l ↦ let z : r.place ≡ place = omega arith in ap (λ k. Some (item_parts k q.0)) z
-          | inr l ↦ some_none q (sym e ∙ ap item_in (same_left ∙ drop_of_length-le text l) ∙ no_item)
+          | inr l ↦ cc (sym e ∙ ap item_in (same_left ∙ drop_of_length-le text l) ∙ no_item)
         ]
         ∙ sym (shown (Some q) (sym (ap item_in same_left) ∙ e))

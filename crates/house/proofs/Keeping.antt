@@ -2,7 +2,9 @@
 use Rattle.std.proofs.Common.{◌≡◌, ℕ, ◌+◌, ◌<◌, ◌≤◌, Bool, true, false, cond, not, ◌&&◌, ◌||◌, eqb, ltb, leb, List, [], ◌∷◌, ◌++◌, map, length, get_or, Some, None, codes, Option, sym, refl, ap, ◌∙◌, subst, inl, inr, arith, length-append}
 use lib.ListN.{length-map}
 use Rattle.std.specs.List.{AllByRecursion}
+use Rattle.std.proofs.lemmas.Bool.{ltb-true, lt-ltb, le-leb, and_parts, and_from, or_cases}
 use Rattle.std.proofs.lemmas.List.{get_or-map, get_or_append_left}
+use Rattle.std.proofs.lemmas.List.Recursion.{and_push}
 use Rattle.std.proofs.ByRecursion.{All-push}
 use Rattle.book.specs.Grammar.{Name, credential_bytes, ItemText}
 use Rattle.book.specs.Places.{item_size}
@@ -16,20 +18,18 @@ use Rattle.house.proofs.Firsts.{first_passes, first_less}
 use Rattle.house.proofs.Cuts.{same_is}
 use Rattle.house.proofs.Spots.{stands_within}
 use Rattle.house.proofs.Registers.{with_party, Ends, all_of, ends_party, entries_party, entries_item, credential_of, credentials}
-use Rattle.house.proofs.Sound.{both, either}
 
 -- tests over lists
 every_of : {X : Type 0} (p q : X → Bool) → ((x : X) → p x ≡ true → q x ≡ true) → (xs : List X) → every p xs ≡ true → every q xs ≡ true
 every_of p q f [] h = refl
 every_of p q f (x ∷ xs) h =
-    let s = both (p x) (every p xs) h in
+    let s = and_parts (p x) (every p xs) h in
     let a = f x s.0 in
     let b = every_of p q f xs s.1 in
     grind arith
 
 every_push : {X : Type 0} (p : X → Bool) (xs : List X) (x : X) → every p xs ≡ true → p x ≡ true → every p (xs ++ x ∷ []) ≡ true
-every_push p [] x h e = grind arith
-every_push p (y ∷ ys) x h e = let s = both (p y) (every p ys) h in let a = s.0 in let r = every_push p ys x s.1 e in grind arith
+every_push p xs x h e = and_push (every p) p refl (λ y ys. refl) xs x ∙ and_from _ _ h e
 
 every_map : {X Y : Type 0} (f : X → Y) (p : Y → Bool) (xs : List X) → AllByRecursion (λ x. p (f x) ≡ true) xs → every p (map f xs) ≡ true
 every_map f p [] a = refl
@@ -40,22 +40,19 @@ module _ (xs ys : List Item) where
   longer : (n : ℕ) → ltb n (length xs) ≡ true → ltb n (length (xs ++ ys)) ≡ true
   longer n h = let k = length-append xs ys in grind arith
 
-  below : (n : ℕ) → ltb n (length xs) ≡ true → n < length xs
-  below n h = grind arith
-
   still : (n : ℕ) → ltb n (length xs) ≡ true → get_or (xs ++ ys) n no_item ≡ get_or xs n no_item
-  still n h = get_or_append_left xs ys no_item n (below n h)
+  still n h = get_or_append_left xs ys no_item n (ltb-true n (length xs) h)
 
   body_more : (owner b : ℕ) → body_sound xs owner b ≡ true → body_sound (xs ++ ys) owner b ≡ true
   body_more owner b h =
-      let s = both _ _ h in
+      let s = and_parts _ _ h in
       let a = longer b s.0 in
       let e = sym (still b s.0) in
       subst (λ i. (ltb b (length (xs ++ ys)) && (eqb i.source owner || eqb i.destination owner)) ≡ true) e (let t = s.1 in grind arith)
 
   rule-more : (r : RuleView) → rule_sound xs r ≡ true → rule_sound (xs ++ ys) r ≡ true
   rule-more r h =
-      let s = both _ _ h in
+      let s = and_parts _ _ h in
       let a = longer r.head s.0 in
       let e = sym (still r.head s.0) in
       let owner = (get_or xs r.head no_item).source in
@@ -99,7 +96,7 @@ module _ (text : List ℕ) (v : Policies) (k : Kept text v) where
 
 -- the same item has the same source and destination
 same_ends : (i : ItemText) (w : Written) → same_item i w ≡ true → (w.item.source ≡ i.source) × (w.item.destination ≡ i.destination)
-same_ends i w h = let s = both _ _ h in let t = both _ _ s.1 in (same_is _ _ s.0, same_is _ _ t.1)
+same_ends i w h = let s = and_parts _ _ h in let t = and_parts _ _ s.1 in (same_is _ _ s.0, same_is _ _ t.1)
 
 module _ (v : Policies) where
   -- the entry of a registered item
@@ -126,7 +123,7 @@ module _ (v : Policies) where
         let f = found_ends b a in
         let o = (found_ends h hh).0 in
         let l = number_below b a in
-        elim (either _ _ c) [
+        elim (or_cases _ _ c) [
           | inl e ↦ let s = f.0 ∙ ap (λ x. first_of (named x) v.parties) (same_is _ _ e) ∙ sym o in grind arith
           | inr e ↦ let s = f.1 ∙ ap (λ x. first_of (named x) v.parties) (same_is _ _ e) ∙ sym o in grind arith
         ]
@@ -141,7 +138,7 @@ module _ (v : Policies) where
 
     once-every : (p : ℕ → Bool) (seen ns : List ℕ) → every p seen ≡ true → every p ns ≡ true → every p (once seen ns) ≡ true
     once-every p seen [] s h = s
-    once-every p seen (n ∷ ns) s e = let t = both _ _ e in go (any (eqb n) seen) (once-every p seen ns s t.1) (once-every p (seen ++ n ∷ []) ns (every_push p seen n s t.0) t.1)
+    once-every p seen (n ∷ ns) s e = let t = and_parts _ _ e in go (any (eqb n) seen) (once-every p seen ns s t.1) (once-every p (seen ++ n ∷ []) ns (every_push p seen n s t.0) t.1)
       where
         go : (b : Bool) → every p (once seen ns) ≡ true → every p (once (seen ++ n ∷ []) ns) ≡ true → every p (cond b (once seen ns) (once (seen ++ n ∷ []) ns)) ≡ true
         go true x y = x
@@ -165,15 +162,6 @@ item_room i =
     let a = length-append i.source (codes "^" ++ (credential_bytes i.credential ++ (codes ">" ++ i.destination))) in
     let b = length-append (credential_bytes i.credential) (codes ">" ++ i.destination) in
     omega arith
-
-lt-ltb : (m n : ℕ) → m < n → ltb m n ≡ true
-lt-ltb m n h = grind arith
-
-le_leb : (m n : ℕ) → m ≤ n → leb m n ≡ true
-le_leb m n h = grind arith
-
-five : (a b c d e : Bool) → a ≡ true → b ≡ true → c ≡ true → d ≡ true → e ≡ true → (a && (b && (c && (d && e)))) ≡ true
-five a b c d e p q r s t = grind arith
 
 all_both : {X : Type 0} (P Q : X → Type 0) (xs : List X) → AllByRecursion P xs → AllByRecursion Q xs → AllByRecursion (λ x. P x × Q x) xs
 all_both P Q [] a b = tt
@@ -200,10 +188,10 @@ module _ (text : List ℕ) (v : Policies) (k : Kept text v) where
       let t1 : ltb i1.source (length parties) ≡ true = lt-ltb i1.source (length parties) (omega arith) in
       let t2 : ltb i1.destination (length parties) ≡ true = lt-ltb i1.destination (length parties) (omega arith) in
       let t3 : ltb i1.credential (length (map (entry v) v.items)) ≡ true = lt-ltb i1.credential (length (map (entry v) v.items)) (omega arith) in
-      let t4 : within (length text) i1.part ≡ true = le_leb (i1.part.place + i1.part.length) (length text) (omega arith) in
+      let t4 : within (length text) i1.part ≡ true = le-leb (i1.part.place + i1.part.length) (length text) (omega arith) in
       let names = (get_or parties i1.source nowhere).length + (get_or parties i1.destination nowhere).length + 2 in
-      let t5 : leb names i1.part.length ≡ true = le_leb names i1.part.length (omega arith) in
-      five _ _ _ _ _ t1 t2 t3 t4 t5
+      let t5 : leb names i1.part.length ≡ true = le-leb names i1.part.length (omega arith) in
+      and_from _ _ t1 (and_from _ _ t2 (and_from _ _ t3 (and_from _ _ t4 t5)))
 
   pub kept_sound : sound (map party_part v.parties) (map (entry v) v.items) v.rules v.asked (length text) ≡ true
   kept_sound =

@@ -3,7 +3,6 @@ pub mod BookLaw
 pub mod Counts
 pub mod Cuts
 pub mod Dispatch
-pub mod Each
 pub mod Firsts
 pub mod Judged
 pub mod Judging

@@ -1,19 +1,35 @@
 -- Lookups in tables that hold policies find what the policies say.
-use Rattle.std.proofs.Common.{◌≡◌, ℕ, Bool, false, ◌&&◌, List, Some, None, ap, ◌∙◌}
-use Rattle.std.specs.List.{AllByRecursion}
+use Rattle.std.proofs.Common.{◌≡◌, ℕ, ◌<◌, ◌≤◌, Bool, ◌&&◌, List, Some, Option, Result, ap, ◌∙◌, arith}
+use Rattle.std.specs.List.{AllByRecursion, position}
+use Rattle.std.specs.Result.{OkIff, result_ok}
+use Rattle.std.proofs.lemmas.Result.{Ok-from_Ok_iff}
+use Rattle.table.specs.declared.store.Table.{Table}
 use Rattle.table.specs.Held.{held}
+use Rattle.table.proofs.Slots.{held_fits}
 use Rattle.book.specs.declared.parts.Part.{Part}
 use Rattle.book.specs.declared.parts.ItemParts.{ItemParts}
 use Rattle.book.specs.Grammar.{Name}
 use Rattle.book.specs.Places.{item_parts}
 use Rattle.book.specs.Laws.{cut_out}
 use Rattle.house.specs.declared.tables.Tables.{Tables}
-use Rattle.house.specs.Policies.{same, Written, Policies, any, named, same_credential, same_item, enrolled}
+use Rattle.house.specs.Policies.{same, Written, Policies, any, named, same_item, enrolled}
 use Rattle.house.specs.Books.{party_part, entry}
 use Rattle.house.specs.Filling.{found_in, alike, ends_enrolled, like_item, like_credential, ItemAt, Filled}
-use Rattle.house.proofs.Firsts.{any-map, found_map}
+use Rattle.house.proofs.Firsts.{any-map, first_less, position_found, found_some, found_map}
 use Rattle.house.proofs.Spots.{name_cut, item_cut, item_read}
 use Rattle.house.proofs.Registers.{all_of, credential_of}
+
+-- a place that is found in a table of at most 256 values is a number
+pub number_found : {X E : Type 0} {N : ℕ} (t : Table X N) → N ≤ 256 → (p : X → Bool) (place : ℕ) (narrow : Result ℕ E) (answer : Option ℕ) → Some place ≡ position p (held t) → OkIff narrow (place < 256) place →
+    answer ≡ result_ok narrow → answer ≡ found_in p (held t)
+number_found t few p place narrow answer e k a =
+    let f = e ∙ position_found p (held t) in
+    let s = found_some p (held t) place f in
+    let l = first_less p (held t) s.0 in
+    let m = held_fits t in
+    let n = t.fits in
+    let i = s.1 in
+    a ∙ ap result_ok (Ok-from_Ok_iff narrow (place < 256) place k (omega arith)) ∙ f
 
 module _ (text : List ℕ) where
   pub same_cut : (a b : Part) (x y : List ℕ) → cut_out text a ≡ x → cut_out text b ≡ y → alike text a b ≡ same x y
@@ -31,18 +47,14 @@ module _ (text : List ℕ) where
       let s = same_cut first.source written.source _ _ y.source x.source in
       let c = same_cut first.credential written.credential _ _ y.credential x.credential in
       let d = same_cut first.destination written.destination _ _ y.destination x.destination in
-      ap (λ z. z && (alike text first.credential written.credential && alike text first.destination written.destination)) s
-      ∙ ap (λ z. same u.item.source w.item.source && (z && alike text first.destination written.destination)) c
-      ∙ ap (λ z. same u.item.source w.item.source && (same_credential u.item.credential w.item.credential && z)) d
+      cc
 
   module _ (v : Policies) (w : Written) (a : ItemAt text w) where
     like : (u : Written) → ItemAt text u → like_item text (item_parts w.place w.item) (entry v u) ≡ same_item w.item u
-    like u b = ap (λ o. (elim o [ None ↦ false | Some first ↦ items_alike first (item_parts w.place w.item) ])) (item_read text u b) ∙ same_items w u a b
+    like u b = rw (item_read text u b, like_item) (same_items w u a b)
 
     like_one : (u : Written) → ItemAt text u → like_credential text (item_parts w.place w.item).credential (entry v u) ≡ credential_of w.item u
-    like_one u b =
-        ap (λ o. (elim o [ None ↦ false | Some first ↦ alike text first.credential (item_parts w.place w.item).credential ])) (item_read text u b)
-        ∙ same_cut (item_parts u.place u.item).credential (item_parts w.place w.item).credential _ _ (item_cut text u b).credential (item_cut text w a).credential
+    like_one u b = rw (item_read text u b, like_credential) (same_cut (item_parts u.place u.item).credential (item_parts w.place w.item).credential _ _ (item_cut text u b).credential (item_cut text w a).credential)
 
   module _ (t : Tables) (v : Policies) (f : Filled text t v) where
     named-alike : (p : Part) (n : Name) → cut_out text p ≡ n → AllByRecursion (λ e. alike text (party_part e) p ≡ named n e) v.parties

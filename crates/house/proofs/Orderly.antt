@@ -13,7 +13,7 @@ use Rattle.house.specs.Policies.{same, Enrolled, Written, Policies, any, first_o
 use Rattle.house.specs.Books.{entry}
 use Rattle.house.specs.BookLaw.{Says, Smallest}
 use Rattle.house.specs.RegisterLaw.{SameItem, SameEntry, Once, Orderly}
-use Rattle.house.proofs.Firsts.{contrary, first_passes}
+use Rattle.house.proofs.Firsts.{first_passes}
 use Rattle.house.proofs.Cuts.{same_refl, same_is}
 use Rattle.house.proofs.Registers.{Ends, all_of, ends_party, credential_of, credentials}
 use Rattle.house.proofs.Stand.{all_registered}
@@ -147,7 +147,7 @@ module _ (v : Policies) (s : Sorted v) where
       }
 
   differ : (i j : ℕ) (d : Written) → i < j → j < length v.items → ¬ SameItem (get_or v.items i d).item (get_or v.items j d).item
-  differ i j d l m e = contrary (sym (s.items i j d l m) ∙ of_same (get_or v.items i d).item (get_or v.items j d).item (get_or v.items i d).place e)
+  differ i j d l m e = cc (sym (s.items i j d l m) ∙ of_same (get_or v.items i d).item (get_or v.items j d).item (get_or v.items i d).place e)
 
   pub orderly : Orderly v
   orderly =
@@ -156,7 +156,7 @@ module _ (v : Policies) (s : Sorted v) where
             let first : j < length v.items = omega arith in
             differ j k d l m
             (same_entry (record { name = []; place = 0 }) (get_or v.items j d) (get_or v.items k d) (All-get_or (Ends v) v.items j d first s.ends) (All-get_or (Ends v) v.items k d m s.ends) (has-credential j d first) (has-credential k d m) e);
-        parties = λ i j d l m e. contrary (sym (s.parties i j d l m) ∙ (ap (λ x. same x (get_or v.parties j d).name) e ∙ same_refl (get_or v.parties j d).name));
+        parties = λ i j d l m e. cc (sym (s.parties i j d l m) ∙ (ap (λ x. same x (get_or v.parties j d).name) e ∙ same_refl (get_or v.parties j d).name));
         items = differ;
         bodies = s.bodies;
         sources = λ d. all_of (λ w h. name_at d w.item.source h.0) v.items s.ends;

@@ -1,30 +1,21 @@
 -- What the answer of a push says.
-use Rattle.std.proofs.Common.{◌≡◌, ℕ, zero, suc, ◌<◌, Bool, true, false, cond, eqb, List, [], ◌∷◌, ◌++◌, length, get_or, Ok, Err, Result, refl, ap, arith}
-use Rattle.std.specs.List.{IsAnyAnswer, ContainsAt as Has}
-use Rattle.std.proofs.lemmas.List.Elements.{contains_decides}
-use Rattle.std.proofs.lemmas.Bool.Decides.{same_from_decides, Decides-eqb}
+use Rattle.std.proofs.Common.{◌≡◌, ℕ, ◌<◌, Bool, true, false, cond, eqb, List, [], ◌∷◌, ◌++◌, length, Ok, Err, Result, ◌⊎◌, inl, inr, sym, refl, ap, ◌∙◌, arith}
+use Rattle.std.specs.List.{IsAnyAnswer}
+use Rattle.std.specs.Result.{MatchResult, IsErrAnd}
+use Rattle.std.proofs.lemmas.Result.{err_from_is_err_and}
+use Rattle.std.proofs.lemmas.List.Recursion.{or_is}
 use Rattle.table.specs.declared.store.Full.{Full}
 use Rattle.table.specs.Held.{push_answer, pushed}
-use Rattle.house.specs.Policies.{any, first_of}
-use Rattle.house.proofs.Firsts.{first_less, first_passes}
+use Rattle.book.specs.declared.fault.Fault.{Fault}
+use Rattle.house.specs.Policies.{any}
 
 pub err_ok : {A B P : Type 0} (a : A) (b : B) → ◌≡◌ {A = Result A B} (Ok a) (Err b) → P
-err_ok a b e = absurd (let f : ⊥ = grind arith in f)
+err_ok a b e = cc
 
 pub err_is : {A B : Type 0} {b c : B} → ◌≡◌ {A = Result A B} (Err b) (Err c) → b ≡ c
-err_is {b} e = ap (λ r. (elim r [ Ok a ↦ b | Err x ↦ x ])) e
-
-pub ok_is : {A B : Type 0} {a c : A} → ◌≡◌ {A = Result A B} (Ok a) (Ok c) → a ≡ c
-ok_is {a} e = ap (λ r. (elim r [ Ok x ↦ x | Err b ↦ a ])) e
+err_is e = cc
 
 module _ {X : Type 0} (n : ℕ) (xs : List X) where
-  pub push_ok : (x : X) (u : Unit {0}) → Ok u ≡ push_answer n xs → pushed n xs x ≡ xs ++ x ∷ []
-  push_ok x u e = go (eqb (length xs) n) refl e
-    where
-      go : (b : Bool) → eqb (length xs) n ≡ b → ◌≡◌ {A = Result (Unit {0}) Full} (Ok u) (cond b (Err (record {})) (Ok tt)) → cond b xs (xs ++ x ∷ []) ≡ xs ++ x ∷ []
-      go true h e = err_ok u _ e
-      go false h e = refl
-
   pub push_room : (x : X) → length xs < n → pushed n xs x ≡ xs ++ x ∷ []
   push_room x l = let h : eqb (length xs) n ≡ false = grind arith in ap (λ b. cond b xs (xs ++ x ∷ [])) h
 
@@ -35,14 +26,34 @@ module _ {X : Type 0} (n : ℕ) (xs : List X) where
       go true h e = grind arith
       go false h e = grind arith
 
+-- an answer whose refusal becomes another
+abbrev pub refused_by : {A B C : Type 0} → (B → C) → Result A B → Result A C
+refused_by f (Ok x) = Ok x
+refused_by f (Err b) = Err (f b)
+
+module _ {A B C : Type 0} (f : B → C) where
+  pub mapped : {P : B → C → Type 0} (answer : Result A B) (r : Result A C) → MatchResult answer (λ x. r ≡ Ok x) (λ b. IsErrAnd r (P b)) → ((b : B) (d : C) → P b d → d ≡ f b) → r ≡ refused_by f answer
+  mapped (Ok x) r e k = e
+  mapped (Err b) r e k = let p = err_from_is_err_and r e in p.1 ∙ ap Err (k b p.0 p.2)
+
+  pub mapped_ok : (answer : Result A B) (r : Result A C) (x : A) → r ≡ refused_by f answer → r ≡ Ok x → answer ≡ Ok x
+  mapped_ok (Ok y) r x m e = cc
+  mapped_ok (Err b) r x m e = cc (sym e ∙ m)
+
+  pub mapped_err : (answer : Result A B) (r : Result A C) (d : C) → r ≡ refused_by f answer → r ≡ Err d → (b : B) × (answer ≡ Err b) × (d ≡ f b)
+  mapped_err (Ok x) r d m e = cc (sym m ∙ e)
+  mapped_err (Err b) r d m e = (b, refl, cc (sym e ∙ m))
+
+-- a push into a table that is full is a fault, and else puts the value behind the others
+pub push_cases : {X : Type 0} (n : ℕ) (xs : List X) (x : X) (g : Fault) (answer : Result (Unit {0}) Full) (r : Result (Unit {0}) Fault) → answer ≡ push_answer n xs → r ≡ refused_by (λ b. g) answer →
+    ((r ≡ Ok tt) × (pushed n xs x ≡ xs ++ x ∷ [])) ⊎ ((r ≡ Err g) × (length xs ≡ n))
+push_cases n xs x g answer r e m = go (eqb (length xs) n) refl (m ∙ ap (refused_by (λ b. g)) e)
+  where
+    go : (b : Bool) → eqb (length xs) n ≡ b → r ≡ refused_by {A = Unit {0}} {B = Full} (λ q. g) (cond b (Err (record {})) (Ok tt)) → ((r ≡ Ok tt) × (cond b xs (xs ++ x ∷ []) ≡ xs ++ x ∷ [])) ⊎ ((r ≡ Err g) × (length xs ≡ n))
+    go true h k = inr (k, grind arith)
+    go false h k = inl (k, refl)
+
 -- whether a list contains a number
-any-has : (n : ℕ) (xs : List ℕ) → any (eqb n) xs ≡ true → Has xs n
-any-has n xs h = (first_of (eqb n) xs, first_less (eqb n) xs h, (λ d. let e = first_passes (eqb n) xs d h in grind arith))
-
-has-any : (n : ℕ) (xs : List ℕ) (k : ℕ) → k < length xs → ((d : ℕ) → get_or xs k d ≡ n) → any (eqb n) xs ≡ true
-has-any n [] k l e = absurd (omega arith)
-has-any n (x ∷ xs) zero l e = let h = e 0 in grind arith
-has-any n (x ∷ xs) (suc k) l e = let r = has-any n xs k (omega arith) e in grind arith
-
 pub contains_any : (xs : List ℕ) (n : ℕ) (r : Bool) → IsAnyAnswer (λ y t. eqb y n ≡ t) xs r → r ≡ any (eqb n) xs
-contains_any xs n r s = same_from_decides r (any (eqb n) xs) (contains_decides eqb Decides-eqb xs n r s) (any-has n xs, (λ h. has-any n xs h.0 h.1 h.2))
+contains_any xs n true s = or_is (any (eqb n)) (eqb n) refl (λ x ys. refl) xs 0 true (λ e. (s.0, s.1, (let h = s.2 0 in grind arith))) (λ e. cc e)
+contains_any xs n false s = or_is (any (eqb n)) (eqb n) refl (λ x ys. refl) xs 0 false (λ e. cc e) (λ e i l. let h = s i 0 (omega arith) l in grind arith)

@@ -11,7 +11,7 @@ use Rattle.house.specs.View.{rule_views}
 use Rattle.house.specs.Policies.{Written, Policies, any, first_of, named, same_item, number, register, enrolled}
 use Rattle.house.specs.Books.{entry}
 use Rattle.house.specs.Filling.{found_in, alike, like_item, like_credential, ItemAt, Filled, with_items, Registered}
-use Rattle.house.proofs.Firsts.{contrary, first-append, first_new, found_some, found_nothing}
+use Rattle.house.proofs.Firsts.{first-append, first_new, found_some, found_nothing}
 use Rattle.house.proofs.Registers.{credential_of, self_credential, entries_item, number_new}
 use Rattle.house.proofs.Keeping.{kept_item}
 use Rattle.house.proofs.Lookups.{found_source, found_destination, found_item, found_credential}
@@ -30,10 +30,10 @@ module _ (text : List ℕ) (t : Tables) (v : Policies) (w : Written) (item : Ite
   at_item = ap (λ i. found_in (like_item text i) (held t.items)) e ∙ found_item text t v f w a
 
   at_source : found_in (λ q. alike text q item.source) (held t.parties) ≡ found_in (named w.item.source) v.parties
-  at_source = ap (λ i. found_in (λ q. alike text q i.source) (held t.parties)) e ∙ found_source text t v f w a
+  at_source = rw e (found_source text t v f w a)
 
   at_destination : found_in (λ q. alike text q item.destination) (held t.parties) ≡ found_in (named w.item.destination) v.parties
-  at_destination = ap (λ i. found_in (λ q. alike text q i.destination) (held t.parties)) e ∙ found_destination text t v f w a
+  at_destination = rw e (found_destination text t v f w a)
 
   pub known : (n : ℕ) → Some n ≡ found_in (like_item text item) (held t.items) → Registered text v w (Ok n) t
   known n h =
@@ -42,10 +42,10 @@ module _ (text : List ℕ) (t : Tables) (v : Policies) (w : Written) (item : Ite
       (k.1 ∙ ap (λ l. number l w.item) r, subst (λ l. Filled text t (with_items v l)) r f)
 
   pub no_source : {P : Type 0} → None ≡ found_in (λ q. alike text q item.source) (held t.parties) → P
-  no_source h = contrary (sym (found_nothing (named w.item.source) v.parties (h ∙ at_source)) ∙ s)
+  no_source h = cc (sym (found_nothing (named w.item.source) v.parties (h ∙ at_source)) ∙ s)
 
   pub no_destination : {P : Type 0} → None ≡ found_in (λ q. alike text q item.destination) (held t.parties) → P
-  no_destination h = contrary (sym (found_nothing (named w.item.destination) v.parties (h ∙ at_destination)) ∙ d)
+  no_destination h = cc (sym (found_nothing (named w.item.destination) v.parties (h ∙ at_destination)) ∙ d)
 
   module _ (n : None ≡ found_in (like_item text item) (held t.items)) where
     unknown : any (same_item w.item) v.items ≡ false
@@ -72,11 +72,8 @@ module _ (text : List ℕ) (t : Tables) (v : Policies) (w : Written) (item : Ite
         let ec : credential ≡ first_of (credential_of w.item) (v.items ++ w ∷ []) =
         hc ∙ ap (λ x. unwrap_or (found_in (like_credential text x.credential) (held t.items)) num) e ∙ ap (λ o. unwrap_or o num) (found_credential text t v f w a)
         ∙ ap (unwrap_or (found_in (credential_of w.item) v.items)) en ∙ first-credential v.items w in
-        let ee : record { source = source; destination = destination; credential = credential; part = item.whole } ≡ entry v' w =
-        ap (λ x. record { source = x; destination = destination; credential = credential; part = item.whole }) es
-        ∙ ap (λ x. record { source = first_of (named w.item.source) v.parties; destination = x; credential = credential; part = item.whole }) ed
-        ∙ ap (λ x. record { source = first_of (named w.item.source) v.parties; destination = first_of (named w.item.destination) v.parties; credential = x; part = item.whole }) ec
-        ∙ ap (λ x. record { source = first_of (named w.item.source) v.parties; destination = first_of (named w.item.destination) v.parties; credential = first_of (credential_of w.item) (v.items ++ w ∷ []); part = x.whole }) e in (
+        let whole = ap (λ x. x.whole) e in
+        let ee : record { source = source; destination = destination; credential = credential; part = item.whole } ≡ entry v' w = cc in (
           en ∙ sym (number_new v.items w unknown) ∙ ap (λ l. number l w.item) (sym grown),
           subst (λ l. Filled text after (with_items v l)) (sym grown)
               (record {

@@ -3,8 +3,8 @@ use Rattle.std.proofs.Common.{◌≡◌, ◌≤◌, Bool, true, false, cond, Lis
 use Rattle.std.specs.List.{AllByRecursion}
 use Rattle.std.proofs.lemmas.List.{map_push}
 use Rattle.book.specs.Grammar.{credential_bytes, ItemText}
-use Rattle.house.specs.Policies.{Enrolled, Written, Policies, any, first_of, named, same_credential, same_item, number, register, register_all, enrolled}
-use Rattle.house.specs.Books.{item_part, entry}
+use Rattle.house.specs.Policies.{Enrolled, Written, Policies, any, named, same_credential, same_item, number, register, register_all, enrolled}
+use Rattle.house.specs.Books.{entry}
 use Rattle.house.specs.Filling.{with_items}
 use Rattle.house.proofs.Firsts.{any-more, first-append, first_new}
 use Rattle.house.proofs.Cuts.{same_refl}
@@ -39,8 +39,7 @@ module _ (v : Policies) (e : Enrolled) where
   entry_party w h =
       let s = first-append (named w.item.source) v.parties (e ∷ []) h.0 in
       let d = first-append (named w.item.destination) v.parties (e ∷ []) h.1 in
-      ap (λ n. record { source = n; destination = first_of (named w.item.destination) v.parties; credential = first_of (credential_of w.item) v.items; part = item_part w }) (sym s)
-      ∙ ap (λ n. record { source = first_of (named w.item.source) (v.parties ++ e ∷ []); destination = n; credential = first_of (credential_of w.item) v.items; part = item_part w }) (sym d)
+      cc
 
   -- a new party changes no entry
   pub entries_party : AllByRecursion (Ends v) v.items → map (entry v) v.items ≡ map (entry (with_party v e)) v.items
@@ -63,9 +62,7 @@ credentials items = has-credential [] items
 
 module _ (v : Policies) (w : Written) where
   entry_item : (u : Written) → any (credential_of u.item) v.items ≡ true → entry v u ≡ entry (with_items v (v.items ++ w ∷ [])) u
-  entry_item u h =
-      ap (λ n. record { source = first_of (named u.item.source) v.parties; destination = first_of (named u.item.destination) v.parties; credential = n; part = item_part u })
-      (sym (first-append (credential_of u.item) v.items (w ∷ []) h))
+  entry_item u h = let c = first-append (credential_of u.item) v.items (w ∷ []) h in cc
 
   -- a new item changes no entry before it
   pub entries_item : map (entry (with_items v (v.items ++ w ∷ []))) (v.items ++ w ∷ []) ≡ map (entry v) v.items ++ entry (with_items v (v.items ++ w ∷ [])) w ∷ []

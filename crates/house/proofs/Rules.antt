@@ -13,8 +13,7 @@ use Rattle.house.specs.declared.reading.body.Body.{Body}
 use Rattle.house.specs.View.{rule_view, rule_views}
 use Rattle.house.specs.Policies.{Written, Policies, any, enrolled, same_item, number, numbers, once, register, register_all, written_from, with_rule, body_of, too_many, second_ask, with, has, first_true}
 use Rattle.house.specs.Filling.{ItemAt, LineAt, BodyAt, BodyNext, Filled, with_items, Registers, Registered, headed_line, as_fault, Judges, Adds}
-use Rattle.house.proofs.Firsts.{some_is, some_none}
-use Rattle.house.proofs.Pushes.{err_ok}
+use Rattle.house.proofs.Views.{views_push}
 use Rattle.house.proofs.Spots.{line_head}
 use Rattle.house.proofs.Registers.{registered, number_stays, registers_length}
 use Rattle.house.proofs.Keeping.{kept_rule, rule_ok}
@@ -29,7 +28,7 @@ four = OneLetter ∷ EnrolledBefore ∷ NotEnrolled ∷ Strange ∷ []
 -- faults of names come before the others
 module _ (t : Fault → Bool) where
   fault_first : (xs ys : List Fault) (g : Fault) → Err g ≡ as_fault (first_true t xs) → first_true t (xs ++ ys) ≡ Some g
-  fault_first [] ys g e = err_ok tt g (sym e)
+  fault_first [] ys g e = cc (sym e)
   fault_first (x ∷ xs) ys g e = go (t x) e (fault_first xs ys g)
     where
       go : (b : Bool) → Err g ≡ as_fault (cond b (Some x) (first_true t xs)) → (Err g ≡ as_fault (first_true t xs) → first_true t (xs ++ ys) ≡ Some g) → cond b (Some x) (first_true t (xs ++ ys)) ≡ Some g
@@ -41,7 +40,7 @@ module _ (t : Fault → Bool) where
   none_first (x ∷ xs) e = go (t x) refl e (none_first xs)
     where
       go : (b : Bool) → t x ≡ b → Ok tt ≡ as_fault (cond b (Some x) (first_true t xs)) → (Ok tt ≡ as_fault (first_true t xs) → AllByRecursion (λ y. t y ≡ false) xs) → (t x ≡ false) × AllByRecursion (λ y. t y ≡ false) xs
-      go true h e r = err_ok tt x e
+      go true h e r = cc e
       go false h e r = (h, r e)
 
 -- each item is in the register then
@@ -69,10 +68,6 @@ pub none_unknown : (v : Policies) (is : List ItemText) → any (unknown v) is �
 none_unknown v [] h = tt
 none_unknown v (i ∷ is) h = ((grind arith, grind arith), none_unknown v is (grind arith))
 
-views_push : (rs : List Rule) (r : Rule) → rule_views (rs ++ r ∷ []) ≡ rule_views rs ++ rule_view r ∷ []
-views_push [] r = refl
-views_push (x ∷ xs) r = ap (λ l. rule_view x ∷ l) (views_push xs r)
-
 -- the register once all items of the line are in it
 abbrev final : Policies → ℕ → ItemText → List ItemText → List Written
 final v place h items = register_all v.items (record { item = h; place = place + 5 } ∷ written_from (place + 5 + item_size h + 4) items)
@@ -96,9 +91,9 @@ RuleSoFar text t0 rule0 left0 t rule left =
 
 -- the next item of the body
 module _ (text : List ℕ) (v : Policies) (place : ℕ) (h : ItemText) (items : List ItemText) where
-  module _ (t : Tables) (rule : Rule) (left : Body) (s : Building text v place h items t rule left) (left2 : Body) (item : ItemParts) (n : BodyNext text left (Some item) left2) (answer : Result ℕ Fault) (t2 : Tables) (r : Registers text t item answer t2) where
+  module _ (t : Tables) (rule : Rule) (left : Body) (s : Building text v place h items t rule left) (left2 : Body) (item : ItemParts) (n : BodyNext left (Some item) left2) (answer : Result ℕ Fault) (t2 : Tables) (r : Registers text t item answer t2) where
     one_more : (m : List ItemText) → s.more ≡ m → (i : ItemText) × (is : List ItemText) × (s.more ≡ i ∷ is)
-    one_more [] e2 = some_none item (n.0 (subst (BodyAt text left) e2 s.at))
+    one_more [] e2 = cc ((n text).0 (subst (BodyAt text left) e2 s.at))
     one_more (i ∷ is) e2 = (i, is, e2)
 
     abbrev next : ItemText
@@ -123,10 +118,10 @@ module _ (text : List ℕ) (v : Policies) (place : ℕ) (h : ItemText) (items : 
     next_ends = subst (AllByRecursion (λ i. (enrolled v i.source ≡ true) × (enrolled v i.destination ≡ true))) is_next s.ends
 
     next-registered : Registered text (with_items v s.regs) written answer t2
-    next-registered = r (with_items v s.regs) written s.filled (some_is (n.1 next rest at_next).0) at_next.stand.0 next_ends.0.0 next_ends.0.1
+    next-registered = r (with_items v s.regs) written s.filled (cc ((n text).1 next rest at_next).0) at_next.stand.0 next_ends.0.0 next_ends.0.1
 
     still_to_come : register_all regs2 (written_from left2.place rest) ≡ final v place h items
-    still_to_come = ap (register_all regs2) (n.1 next rest at_next).2 ∙ ap (λ l. register_all s.regs (written_from left.place l)) (sym is_next) ∙ s.to_come
+    still_to_come = ap (register_all regs2) ((n text).1 next rest at_next).2 ∙ ap (λ l. register_all s.regs (written_from left.place l)) (sym is_next) ∙ s.to_come
 
     -- the register gets too long
     pub next_long : (g : Fault) → answer ≡ Err g → (g ≡ TooMany) × (256 < length (final v place h items))
@@ -151,7 +146,7 @@ module _ (text : List ℕ) (v : Policies) (place : ℕ) (h : ItemText) (items : 
         record {
           more = rest;
           regs = regs2;
-          at = (n.1 next rest at_next).1;
+          at = ((n text).1 next rest at_next).1;
           filled = k.1;
           ends = next_ends.1;
           to_come = still_to_come;
@@ -247,17 +242,17 @@ module _ (text : List ℕ) (before : Tables) (head : ItemParts) (body : Body) wh
             room = omega arith;
           }
 
-      pub next_over : (after t : Tables) (rule : Rule) (left : Body) → Building text v place h items t rule left → (left2 : Body) (item : ItemParts) → BodyNext text left (Some item) left2 → (g : Fault) (t2 : Tables) →
+      pub next_over : (after t : Tables) (rule : Rule) (left : Body) → Building text v place h items t rule left → (left2 : Body) (item : ItemParts) → BodyNext left (Some item) left2 → (g : Fault) (t2 : Tables) →
           Registers text t item (Err g) t2 → Adds text v place line (Err g) after
       next_over after t rule left s left2 item n g t2 r =
           let k = next_long text v place h items t rule left s left2 item n (Err g) t2 r g refl in
           subst (λ u. Adds text v place line (Err u) after) (sym k.0) (items_over after k.1)
 
       -- the end of the body
-      module _ (t : Tables) (rule : Rule) (left : Body) (s : Building text v place h items t rule left) (left2 : Body) (n : BodyNext text left None left2) where
+      module _ (t : Tables) (rule : Rule) (left : Body) (s : Building text v place h items t rule left) (left2 : Body) (n : BodyNext left None left2) where
         no_more : (m : List ItemText) → s.more ≡ m → s.more ≡ []
         no_more [] e2 = e2
-        no_more (i ∷ is) e2 = some_none _ (sym (n.1 i is (subst (BodyAt text left) e2 s.at)).0)
+        no_more (i ∷ is) e2 = cc (sym ((n text).1 i is (subst (BodyAt text left) e2 s.at)).0)
 
         all_in : s.regs ≡ final v place h items
         all_in = ap (λ l. register_all s.regs (written_from left.place l)) (sym (no_more s.more refl)) ∙ s.to_come
@@ -267,9 +262,8 @@ module _ (text : List ℕ) (before : Tables) (head : ItemParts) (body : Body) wh
 
         rule_is : rule_view rule ≡ record { head = number (final v place h items) h; body = once [] (numbers (final v place h items) items) }
         rule_is =
-            let whole = final v place h items in
-            ap (λ x. record { head = x; body = held rule.body }) s.head_is
-            ∙ ap (λ x. record { head = number whole h; body = x }) (ap (λ l. once (held rule.body) (numbers whole l)) (sym (no_more s.more refl)) ∙ s.body_is)
+            let none = no_more s.more refl in
+            cc (s.head_is, s.body_is)
 
         pub rules_full : (after : Tables) → length (held t.rules) ≡ 512 → Adds text v place line (Err TooMany) after
         rules_full after l = let k = ap length filled.rules in let m = length_views (held t.rules) in rules_over after (omega arith)

@@ -99,12 +99,12 @@ module _ (text : List ℕ) where
       body_items (place + 5 + item_size h + 4) b bs a.behind u a.good.1 a.good.2
 
   -- the next item of a body, and where the one behind it is
-  pub body_next : (b after : Body) (i : ItemText) (more : List ItemText) (sum : ℕ) → length text < 18446744073709551616 → BodyAt text b (i ∷ more) → after.count + 1 ≡ b.count →
+  pub body_next : (b after : Body) (i : ItemText) (more : List ItemText) (sum : ℕ) → length text < 18446744073709551616 → BodyAt text b (i ∷ more) → after.text.now ≡ b.text.now → after.count + 1 ≡ b.count →
       sum ≡ min (b.place + item_size i) 18446744073709551615 → after.place ≡ min (sum + 5) 18446744073709551615 → BodyAt text after more × (written_from after.place more ≡ written_from (b.place + item_size i + 5) more)
-  body_next b after i [] sum short s k e f = let c = s.counted in (record { stand = tt; counted = omega arith }, refl)
-  body_next b after i (m ∷ ms) sum short s k e f =
+  body_next b after i [] sum short s t k e f = let c = s.counted in (record { text_is = t ∙ s.text_is; stand = tt; counted = omega arith }, refl)
+  body_next b after i (m ∷ ms) sum short s t k e f =
       let c = s.counted in
       let next = s.stand.1.0 in
       let w = stands_within _ _ _ next.stands in
       let z : after.place ≡ b.place + item_size i + 5 = omega arith in
-      (record { stand = subst (λ p. AllByRecursion (ItemAt text) (written_from p (m ∷ ms))) (sym z) s.stand.1; counted = omega arith }, ap (λ p. written_from p (m ∷ ms)) z)
+      (record { text_is = t ∙ s.text_is; stand = subst (λ p. AllByRecursion (ItemAt text) (written_from p (m ∷ ms))) (sym z) s.stand.1; counted = omega arith }, ap (λ p. written_from p (m ∷ ms)) z)

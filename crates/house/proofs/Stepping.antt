@@ -1,10 +1,9 @@
 -- A whole text is read line after line.
-use Rattle.std.proofs.Common.{◌≡◌, ℕ, zero, suc, ◌+◌, ◌<◌, ◌≤◌, min, true, cond, List, [], ◌∷◌, ◌++◌, map, length, take, drop, Some, None, Ok, Err, Option, Result, sym, refl, ap, ◌∙◌, arith, length-append, take-append-drop}
+use Rattle.std.proofs.Common.{◌≡◌, ℕ, zero, suc, ◌+◌, ◌<◌, ◌≤◌, min, true, List, [], ◌∷◌, ◌++◌, length, take, drop, Some, None, Ok, Err, Option, Result, sym, refl, ap, ◌∙◌, subst, arith, length-append, take-append-drop}
 use Rattle.std.proofs.lemmas.List.{drop_at, drop-drop, length-take-le}
-use Rattle.std.proofs.lemmas.Bool.{le-ltb}
 use Rattle.table.specs.Held.{held}
 use Rattle.book.specs.declared.fault.Fault.{Fault}
-use Rattle.book.specs.declared.fault.Fault.TheVariants.{NoForm, TooLong}
+use Rattle.book.specs.declared.fault.Fault.TheVariants.{NoForm}
 use Rattle.book.specs.declared.parts.Line.{Line}
 use Rattle.book.specs.declared.reader.Reader.{Reader}
 use Rattle.book.specs.Grammar.{LineText, line_bytes}
@@ -12,18 +11,18 @@ use Rattle.book.specs.Reading.{Parsed, line_in}
 use Rattle.book.specs.Places.{left}
 use Rattle.book.specs.Lines.{LineRead, line_parts, line_size}
 use Rattle.book.proofs.Lines.{inverse_law}
+use Rattle.house.specs.declared.refusal.Refusal.{Refusal}
 use Rattle.house.specs.declared.tables.Tables.{Tables}
 use Rattle.house.specs.View.{View, rule_views, empty_view}
 use Rattle.house.specs.Soundness.{sound}
 use Rattle.house.specs.Tables.{tables_view}
+use Rattle.house.specs.declared.refusal.Refusal.{Refusal}
 use Rattle.house.specs.Policies.{Policies, nothing, with, fault_of}
-use Rattle.house.specs.Books.{FaultAt, unless, line_then, lines_from, book_read, party_part, entry, house_read, view_of}
+use Rattle.house.specs.Books.{unless, line_then, lines_from, book_read, house_read, view_of}
 use Rattle.house.specs.Filling.{LineAt, Filled, Added, AddsLine, TakenLine, TakesLine, TablesRead}
-use Rattle.house.proofs.Each.{each-map}
-use Rattle.house.proofs.Firsts.{some_none}
-use Rattle.house.proofs.Pushes.{err_ok, err_is, ok_is}
+use Rattle.house.proofs.Pushes.{refused_by, mapped_ok, mapped_err}
 use Rattle.house.proofs.Keeping.{kept_sound}
-use Rattle.house.proofs.BookLaw.{line_size_lem, at_end}
+use Rattle.house.proofs.BookLaw.{line_size_lem, at_end, short_read}
 
 abbrev LineHere : Parsed LineText → List ℕ → Reader → Result Line Fault → Reader → Type 0
 LineHere None text before answer after = answer ≡ Err NoForm
@@ -31,7 +30,7 @@ LineHere (Some p) text before answer after = (answer ≡ Ok (line_parts before.p
 
 -- the line at a reader's place
 pub line_here : (text : List ℕ) (before after : Reader) (answer : Result Line Fault) → LineRead before answer after → before.text.now ≡ text → (p : Parsed LineText) → line_in (left before) ≡ p → LineHere p text before answer after
-line_here text before after answer r t None e = (r.none (λ l rest w g. some_none _ (sym ((inverse_law (left before) l rest).1 (w, g)) ∙ e))).0
+line_here text before after answer r t None e = (r.none (λ l rest w g. cc (sym ((inverse_law (left before) l rest).1 (w, g)) ∙ e))).0
 line_here text before after answer r t (Some p) e =
     let l = p.0 in
     let rest = p.1 in
@@ -50,17 +49,17 @@ module _ (text : List ℕ) (t : Tables) (before behind : Reader) (read : Result 
   taken_none g after is v f e = (go (line_in (left before)) refl, ap (λ x. x.now) r.text ∙ e)
     where
       go : (p : Parsed LineText) → line_in (left before) ≡ p → TakenLine p text v before (Err g) after behind
-      go None q = ap Err (err_is (sym is ∙ line_here text before behind read r e None q))
-      go (Some p) q = err_ok _ g (sym (line_here text before behind read r e (Some p) q).0 ∙ is)
+      go None q = cc (sym is ∙ line_here text before behind read r e None q)
+      go (Some p) q = cc (sym (line_here text before behind read r e (Some p) q).0 ∙ is)
 
   pub taken_line : (line : Line) (answer : Result (Unit {0}) Fault) (after : Tables) → read ≡ Ok line → AddsLine text t line answer after → TakesLine text t before answer after behind
   taken_line line answer after is adds v f e = (go (line_in (left before)) refl, ap (λ x. x.now) r.text ∙ e)
     where
       go : (p : Parsed LineText) → line_in (left before) ≡ p → TakenLine p text v before answer after behind
-      go None q = err_ok line NoForm (sym is ∙ line_here text before behind read r e None q)
+      go None q = cc (sym is ∙ line_here text before behind read r e None q)
       go (Some p) q =
           let k = line_here text before behind read r e (Some p) q in
-          (adds v before.place p.0 f k.1 (ok_is (sym is ∙ k.0)), k.2, k.3)
+          (adds v before.place p.0 f k.1 (cc (sym is ∙ k.0)), k.2, k.3)
 
 -- where the loop over the lines stands
 pub record ReadSoFar (text : List ℕ) (t : Tables) (reader : Reader) (line : ℕ) : Type 0 where
@@ -100,19 +99,10 @@ module _ (text : List ℕ) (t : Tables) (v : Policies) (f : Filled text t v) whe
   read = view_of (length text) v
 
   view_is : read ≡ tables_view (length text) t
-  view_is =
-      ap (λ x. record { parties = x; items = read.items; rules = read.rules; asked = read.asked; size = length text }) (each-map party_part v.parties ∙ sym f.parties)
-      ∙ ap (λ x. record { parties = held t.parties; items = x; rules = read.rules; asked = read.asked; size = length text }) (each-map (entry v) v.items ∙ sym f.items)
-      ∙ ap (λ x. record { parties = held t.parties; items = held t.items; rules = x; asked = read.asked; size = length text }) (sym f.rules)
-      ∙ ap (λ x. record { parties = held t.parties; items = held t.items; rules = rule_views (held t.rules); asked = x; size = length text }) (sym f.asked)
+  view_is = cc (f.parties, f.items, f.rules, f.asked)
 
   tables_sound : sound (held t.parties) (held t.items) (rule_views (held t.rules)) t.asked (length text) ≡ true
-  tables_sound =
-      ap (λ x. sound x (held t.items) (rule_views (held t.rules)) t.asked (length text)) f.parties
-      ∙ ap (λ x. sound (map party_part v.parties) x (rule_views (held t.rules)) t.asked (length text)) f.items
-      ∙ ap (λ x. sound (map party_part v.parties) (map (entry v) v.items) x t.asked (length text)) f.rules
-      ∙ ap (λ x. sound (map party_part v.parties) (map (entry v) v.items) v.rules x (length text)) f.asked
-      ∙ kept_sound text v f.kept
+  tables_sound = rw (f.parties, f.items, f.rules, f.asked) (kept_sound text v f.kept)
 
 -- one line and those behind it
 unfold_line : (most : ℕ) (bytes : List ℕ) (place line : ℕ) (v : Policies) → length bytes ≤ most → 0 < length bytes →
@@ -121,10 +111,7 @@ unfold_line zero bytes place line v l n = absurd (omega arith)
 unfold_line (suc m) [] place line v l n = absurd (omega arith)
 unfold_line (suc m) (b ∷ bs) place line v l n = (m, refl, refl)
 
-short_read : (text : List ℕ) → length text ≤ 32768 → book_read text ≡ lines_from (length text) text 0 1 nothing
-short_read text h = ap (λ c. cond c (Err (record { fault = TooLong; line = 0 })) (lines_from (length text) text 0 1 nothing)) (le-ltb 32768 (length text) h)
-
-shown : (text : List ℕ) (answer : Result Policies FaultAt) → book_read text ≡ answer → house_read text ≡ (elim answer [ Ok v ↦ Ok (view_of (length text) v) | Err f ↦ Err f ])
+shown : (text : List ℕ) (answer : Result Policies Refusal) → book_read text ≡ answer → house_read text ≡ (elim answer [ Ok v ↦ Ok (view_of (length text) v) | Err f ↦ Err f ])
 shown text answer e = ap (λ x. (elim x [ Ok v ↦ Ok (view_of (length text) v) | Err f ↦ Err f ])) e
 
 module _ (text : List ℕ) (short : length text ≤ 32768) (t : Tables) (reader : Reader) (line : ℕ) (s : ReadSoFar text t reader line) where
@@ -132,31 +119,31 @@ module _ (text : List ℕ) (short : length text ≤ 32768) (t : Tables) (reader 
     abbrev opened : (less : ℕ) × (s.most ≡ suc less) × (lines_from s.most (left reader) reader.place line s.so_far ≡ line_then (line_in (left reader)) reader.place line s.so_far (λ rest next w. lines_from less rest next (line + 1) w))
     opened = unfold_line s.most (left reader) reader.place line s.so_far s.enough n
 
-    abbrev more : List ℕ → ℕ → Policies → Result Policies FaultAt
+    abbrev more : List ℕ → ℕ → Policies → Result Policies Refusal
     more rest next w = lines_from opened.0 rest next (line + 1) w
 
     -- a line at fault ends the reading
-    pub stopped : (g : Fault) → TakesLine text t reader (Err g) after behind → TablesRead text (Err (record { fault = g; line = line }))
+    stopped : (g : Fault) → TakesLine text t reader (Err g) after behind → TablesRead text (Err (record { fault = g; line = line }))
     stopped g takes = shown text (Err (record { fault = g; line = line })) (short_read text short ∙ sym s.to_come ∙ opened.2 ∙ go (line_in (left reader)) (takes s.so_far s.filled s.text_is).0)
       where
         judged : (l : LineText) (rest : List ℕ) (f : Option Fault) → Added text s.so_far reader.place l f (Err g) after → unless f line (more rest (reader.place + line_size l) (with s.so_far reader.place l)) ≡ Err (record { fault = g; line = line })
-        judged l rest None a = err_ok tt g (sym a.0)
-        judged l rest (Some f) a = ap (λ x. Err (record { fault = x; line = line })) (sym (err_is a))
+        judged l rest None a = cc (sym a.0)
+        judged l rest (Some f) a = cc a
 
         go : (p : Parsed LineText) → TakenLine p text s.so_far reader (Err g) after behind → line_then p reader.place line s.so_far more ≡ Err (record { fault = g; line = line })
-        go None a = ap (λ x. Err (record { fault = x; line = line })) (sym (err_is a))
+        go None a = cc a
         go (Some p) a = judged p.0 p.1 (fault_of s.so_far p.0) a.0
 
     -- a line without fault is passed
-    pub passed : TakesLine text t reader (Ok tt) after behind → ReadSoFar text after behind (line + 1) × (length (left behind) < length (left reader))
+    passed : TakesLine text t reader (Ok tt) after behind → ReadSoFar text after behind (line + 1) × (length (left behind) < length (left reader))
     passed takes = go (line_in (left reader)) refl (takes s.so_far s.filled s.text_is).0
       where
         judged : (l : LineText) (rest : List ℕ) (f : Option Fault) → fault_of s.so_far l ≡ f → Added text s.so_far reader.place l f (Ok tt) after → (fault_of s.so_far l ≡ None) × Filled text after (with s.so_far reader.place l)
         judged l rest None q a = (q, a.1)
-        judged l rest (Some f) q a = err_ok tt f a
+        judged l rest (Some f) q a = cc a
 
         go : (p : Parsed LineText) → line_in (left reader) ≡ p → TakenLine p text s.so_far reader (Ok tt) after behind → ReadSoFar text after behind (line + 1) × (length (left behind) < length (left reader))
-        go None e a = err_ok tt NoForm a
+        go None e a = cc a
         go (Some p) e a =
             let l = p.0 in
             let rest = p.1 in
@@ -183,6 +170,16 @@ module _ (text : List ℕ) (short : length text ≤ 32768) (t : Tables) (reader 
               },
               omega arith,
             )
+
+    -- and so the refusals of the whole text
+    module _ (answer : Result (Unit {0}) Fault) (told : Result (Unit {0}) Refusal) (m : told ≡ refused_by (λ g. record { fault = g; line = line }) answer) (takes : TakesLine text t reader answer after behind) where
+      pub ended : (d : Refusal) → told ≡ Err d → TablesRead text (Err d)
+      ended d e =
+          let k = mapped_err (λ g. record { fault = g; line = line }) answer told d m e in
+          subst (λ x. TablesRead text (Err x)) (sym k.2) (stopped k.0 (subst (λ x. TakesLine text t reader x after behind) k.1 takes))
+
+      pub went_on : (x : Unit {0}) → told ≡ Ok x → ReadSoFar text after behind (line + 1) × (length (left behind) < length (left reader))
+      went_on x e = passed (subst (λ y. TakesLine text t reader y after behind) (mapped_ok (λ g. record { fault = g; line = line }) answer told x m e) takes)
 
   -- all lines are read
   pub all_read : length (left reader) ≡ 0 → TablesRead text (Ok t)

@@ -7,8 +7,9 @@ use Rattle.book.specs.Faults.{fault_number}
 use Rattle.book.specs.Grammar.{item_bytes, LineText, line_bytes, GoodLine}
 use Rattle.book.specs.Laws.{cut_out}
 use Rattle.book.specs.Lines.{line_size}
+use Rattle.house.specs.declared.refusal.Refusal.{Refusal}
 use Rattle.house.specs.Policies.{Policies, nothing, with, has, fault_of}
-use Rattle.house.specs.Books.{FaultAt, book_read, party_part, item_part}
+use Rattle.house.specs.Books.{book_read, party_part, item_part}
 
 -- of the faults that pass the test, the one with the smallest number
 abbrev pub Smallest : (Fault → Bool) → Option Fault → Type 0
@@ -43,7 +44,7 @@ abbrev pub Faulty : Policies → List ℕ → Fault → Type 0
 Faulty v bytes f = ((f ≡ NoForm) × NoLine bytes) ⊎ LineWith v bytes f
 
 -- all bytes are lines without fault; or those before the first faulty line are, and it is the line with that number
-abbrev pub Told : List ℕ → Policies → ℕ → ℕ → Result Policies FaultAt → Type 0
+abbrev pub Told : List ℕ → Policies → ℕ → ℕ → Result Policies Refusal → Type 0
 Told bytes before place line (Ok after) = (ls : List LineText) × Front bytes before place ls after []
 Told bytes before place line (Err e) =
     (ls : List LineText) × (after : Policies) × (rest : List ℕ) × Front bytes before place ls after rest × Faulty after rest e.fault × (e.line ≡ line + length ls)
@@ -56,5 +57,5 @@ pub record Stand (text : List ℕ) (v : Policies) : Type 0 where
 pub record BookLaw : Type 0 where
   pub smallest : (v : Policies) (l : LineText) → Smallest (has v l) (fault_of v l)
   pub long : (text : List ℕ) → 32768 < length text → book_read text ≡ Err (record { fault = TooLong; line = 0 })
-  pub short : (text : List ℕ) (answer : Result Policies FaultAt) → length text ≤ 32768 → (book_read text ≡ answer) ↔ Told text nothing 0 1 answer
+  pub short : (text : List ℕ) (answer : Result Policies Refusal) → length text ≤ 32768 → (book_read text ≡ answer) ↔ Told text nothing 0 1 answer
   pub places : (text : List ℕ) (v : Policies) → book_read text ≡ Ok v → Stand text v

@@ -77,6 +77,7 @@ pub record LineAt (text : List ℕ) (place : ℕ) (l : LineText) : Type 0 where
 
 -- the items of a body that are still to come
 pub record BodyAt (text : List ℕ) (b : Body) (items : List ItemText) : Type 0 where
+  pub text_is : b.text.now ≡ text
   pub stand : AllByRecursion (ItemAt text) (written_from b.place items)
   pub counted : b.count ≡ length items
 
@@ -97,8 +98,9 @@ pub record Filled (text : List ℕ) (t : Tables) (v : Policies) : Type 0 where
   pub kept : Kept text v
 
 -- What the steps do to tables that hold policies.
-abbrev pub BodyNext : List ℕ → Body → Option ItemParts → Body → Type 0
-BodyNext text before answer after =
+abbrev pub BodyNext : Body → Option ItemParts → Body → Type 0
+BodyNext before answer after =
+    (text : List ℕ) →
     (BodyAt text before [] → answer ≡ None)
     × ((i : ItemText) (more : List ItemText) → BodyAt text before (i ∷ more) →
     (answer ≡ Some (item_parts before.place i)) × BodyAt text after more × (written_from after.place more ≡ written_from (before.place + item_size i + 5) more))

@@ -1,4 +1,5 @@
 pub mod Answer
+pub mod Words
 pub mod BookLaw
 pub mod Books
 pub mod Filling

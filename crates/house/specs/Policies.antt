@@ -1,5 +1,5 @@
 -- What a book says, line by line: the faults of a line that has a form, and what a line without fault adds.
-use Rattle.std.specs.Prelude.{ℕ, suc, ◌+◌, Bool, true, false, cond, not, ◌&&◌, ◌||◌, List, [], ◌∷◌, ◌++◌, length, Some, None, Option, ◌==◌, nat_eq, nat_lt}
+use Rattle.std.specs.Prelude.{ℕ, suc, ◌+◌, Bool, true, false, cond, not, ◌&&◌, ◌||◌, List, [], ◌∷◌, ◌++◌, length, is_some, Some, None, Option, ◌==◌, nat_eq, nat_lt}
 use Rattle.book.specs.declared.fault.Fault.{Fault}
 use Rattle.book.specs.declared.fault.Fault.TheVariants.{TooLong, NoForm, OneLetter, EnrolledBefore, NotEnrolled, Strange, TooMany, SecondAsk}
 use Rattle.book.specs.Grammar.{Name, Credential, credential_bytes, ItemText, LineText}
@@ -151,10 +151,6 @@ abbrev pub too_many : Policies → LineText → Bool
 too_many v l =
     let w = with v 0 l in
     nat_lt 16 (length w.parties) || (nat_lt 256 (length w.items) || (nat_lt 512 (length w.rules) || nat_lt 8 (length (body_of l))))
-
-abbrev pub is_some : Option ℕ → Bool
-is_some None = false
-is_some (Some d) = true
 
 abbrev pub second_ask : Policies → LineText → Bool
 second_ask v l = asks l && is_some v.asked

@@ -1,5 +1,5 @@
 -- What a house says: its tables without unused slots.
-use Rattle.std.specs.Prelude.{◌≡◌, ℕ, ◌<◌, ◌≤◌, List, [], ◌∷◌, length, Some, None, Option, slice_index_or}
+use Rattle.std.specs.Prelude.{ℕ, List, [], map, None, Option}
 use Rattle.table.specs.Held.{held}
 use Rattle.book.specs.declared.parts.Part.{Part}
 use Rattle.house.specs.declared.entries.Item.{Item}
@@ -15,8 +15,7 @@ rule_view r = record { head = r.head; body = held r.body }
 
 -- the rules of a table
 abbrev pub rule_views : List Rule → List RuleView
-rule_views [] = []
-rule_views (r ∷ rs) = let vs = rule_views rs in rule_view r ∷ vs
+rule_views rs = map rule_view rs
 
 -- the parties in the order of enrolment, by the places of their names; the items in the order of first writing; the rules in
 -- the order of their lines; the asked item; the length of the text
@@ -29,8 +28,3 @@ pub record View : Type 0 where
 
 abbrev pub empty_view : View
 empty_view = record { parties = []; items = []; rules = []; asked = None; size = 0 }
-
--- the rule with a number, or none past the end
-abbrev pub RuleRead : List RuleView → ℕ → Option Rule → Type 0
-RuleRead rules number (Some r) = (number < length rules) × (rule_view r ≡ slice_index_or rules number (rule_view r))
-RuleRead rules number None = length rules ≤ number

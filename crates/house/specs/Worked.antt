@@ -2,8 +2,9 @@
 use Rattle.std.specs.Prelude.{◌≡◌, ℕ, List, [], ◌∷◌, ◌++◌, length, Some, None, Ok, Err, codes, Option, Result}
 use Rattle.book.specs.declared.fault.Fault.{Fault}
 use Rattle.book.specs.declared.fault.Fault.TheVariants.{NoForm, OneLetter, EnrolledBefore, NotEnrolled, Strange, TooMany, SecondAsk}
+use Rattle.house.specs.declared.refusal.Refusal.{Refusal}
 use Rattle.house.specs.View.{View, RuleView}
-use Rattle.house.specs.Books.{FaultAt, house_read}
+use Rattle.house.specs.Books.{house_read}
 
 -- a held berth, a consent that needs it, an opening that needs the consent
 abbrev pub seven_lines : List ℕ
@@ -27,16 +28,16 @@ seven_view =
       size = 245;
     }
 
-abbrev pub fault_on : Fault → ℕ → Result View FaultAt
+abbrev pub fault_on : Fault → ℕ → Result View Refusal
 fault_on f n = Err (record { fault = f; line = n })
 
 -- the rules of the house that is read
-abbrev pub rules_of : Result View FaultAt → Option (List RuleView)
+abbrev pub rules_of : Result View Refusal → Option (List RuleView)
 rules_of (Ok v) = Some v.rules
 rules_of (Err f) = None
 
 -- how many parties it has
-abbrev pub parties_of : Result View FaultAt → Option ℕ
+abbrev pub parties_of : Result View Refusal → Option ℕ
 parties_of (Ok v) = Some (length v.parties)
 parties_of (Err f) = None
 

@@ -5,7 +5,7 @@ use table::Table;
 pub const MOST_BODY: usize = 8;
 
 /// One ground disclosure: its source party discloses a credential to its destination party.
-#[derive(Clone, Copy)]
+#[derive(Clone, Copy, PartialEq, Eq, Debug)]
 pub struct Item {
     pub source: u8,
     pub destination: u8,

@@ -1,5 +1,5 @@
+use house::{MOST_ITEMS, MOST_RULES};
 use links::Links;
-use table::Table;
 
 mod methods;
 
@@ -9,11 +9,10 @@ pub const MOST_USES: usize = 4096;
 /// Chains through the rules and the items of a house.
 #[derive(Clone, Copy)]
 pub struct Index {
-    /// Body items, rule after rule, and the number of the rule that each stands in.
-    pub uses: Links<MOST_USES>,
-    pub rules: Table<u16, MOST_USES>,
+    /// Body items, rule after rule, each with the number of the rule that it stands in.
+    pub uses: Links<u16, MOST_USES>,
     /// Rules by their heads.
-    pub heads: Links<512>,
+    pub heads: Links<(), MOST_RULES>,
     /// Items by their credentials.
-    pub credentials: Links<256>,
+    pub credentials: Links<(), MOST_ITEMS>,
 }

@@ -9,9 +9,9 @@ fn the_chains_of_a_book(rt: HostRuntime) {
     assert!(rt; read(book, &mut house).is_ok());
     let index = Index::of(&house);
     assert_eq!(rt; index.uses.latest(0), Some(2));
-    assert_eq!(rt; index.rules.get(2), Some(2));
+    assert_eq!(rt; index.uses.value(2), Some(2));
     assert_eq!(rt; index.uses.earlier(2), Some(0));
-    assert_eq!(rt; index.rules.get(0), Some(1));
+    assert_eq!(rt; index.uses.value(0), Some(1));
     assert_eq!(rt; index.uses.earlier(0), None);
     assert_eq!(rt; index.uses.latest(1), None);
     assert_eq!(rt; index.heads.latest(1), Some(2));

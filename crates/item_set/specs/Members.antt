@@ -1,11 +1,11 @@
 -- Which items are in a set of four words.
 use Rattle.std.specs.Prelude.{◌≡◌, ℕ, zero, suc, ◌+◌, ◌/◌, ◌%◌, ◌<◌, Bool, true, false, cond, Some, None, Option, ◌==◌, slice_index}
+use Rattle.std.specs.Int.{bit_at}
 use Rattle.item_set.specs.declared.set.ItemSet.{ItemSet}
 
 -- a binary digit of a number, the lowest being digit 0
 abbrev pub digit : ℕ → ℕ → Bool
-digit w zero = w % 2 == 1
-digit w (suc k) = digit (w / 2) k
+digit w k = bit_at w k == 1
 
 -- item n is digit n mod 64 of word n div 64; there is no item from 256 on
 abbrev pub member : ItemSet → ℕ → Bool

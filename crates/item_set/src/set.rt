@@ -1,26 +1,17 @@
-ghost use Rattle.std.specs.Prelude.{◌≡◌, ⊤, length};
-
-use std::alloc::AllocError;
+ghost use Rattle.std.specs.Prelude.{◌≡◌, length};
 
 mod methods;
 
 /// How many items one word holds.
-pub(crate) const WORD: usize = 64;
+const WORD: usize = 64;
+
+/// How many words hold all items.
+const WORDS: usize = 256 / WORD;
 
 /// A set of items: item `n` is bit `n` mod 64 of word `n` div 64.
+// No `Model`: it would owe the words back from the members, for `Copy` and `==`.
+#[derive(Clone, Copy, PartialEq, Eq, Debug)]
 pub struct ItemSet {
-    words: [u64; 4],
+    words: [u64; WORDS],
     ghost whole: { length words ≡ 4 },
 }
-
-impl Clone for ItemSet {
-    ghost is_clone = { λ x y. y ≡ x };
-
-    ghost is_infallible = { λ _. ⊤ };
-
-    fn clone(&self) -> Result<ItemSet, AllocError> {
-        Ok(*self)
-    }
-}
-
-impl Copy for ItemSet {}

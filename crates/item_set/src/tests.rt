@@ -1,4 +1,14 @@
+ghost use Rattle.std.specs.Prelude.{◌≡◌, Ok};
+
 use crate::ItemSet;
+use std::alloc::AllocError;
+
+/// A clone is the same set, and there is always one.
+fn copied(set: &ItemSet) -> Result<ItemSet, AllocError>
+    ensures { result ≡ Ok set.now }
+{
+    set.clone()
+}
 
 #[test]
 fn in_and_out(rt: HostRuntime) {
@@ -13,6 +23,7 @@ fn in_and_out(rt: HostRuntime) {
         assert_eq!(rt; set.lowest(), Some(item.min(set.lowest().unwrap_or(item))));
     }
     assert_eq!(rt; set.count(), 5);
+    assert!(rt; copied(&set).is_ok_and(|copy| copy == set));
     set.remove(0);
     set.remove(1);
     assert_eq!(rt; set.lowest(), Some(63));

@@ -1,5 +1,6 @@
 -- What reading a letter answers, by what reading its two numbers answers.
-use Rattle.std.proofs.Common.{◌≡◌, ℕ, ◌+◌, ◌^◌, ◌<◌, false, ltb, ◌⊎◌, List, ◌++◌, length, drop, Some, None, Ok, Err, Result, sym, refl, ap, ◌∙◌, subst, inl, inr, ⊎_elim, append_assoc, arith, length-append}
+use Rattle.std.proofs.Common.{◌≡◌, ℕ, ◌+◌, ◌^◌, ◌<◌, false, ltb, ◌⊎◌, List, ◌++◌, length, drop, Some, None, Ok, Err, Option, Result, sym, refl, ap, ◌∙◌, subst, inl, inr, ⊎_elim, append_assoc, arith, length-append}
+use Rattle.std.specs.Option.{ok_or}
 use Rattle.std.proofs.lemmas.List.{drop_at}
 use Rattle.std.proofs.lemmas.Bool.{le-ltb}
 use Rattle.letter.specs.declared.letter.Kind.{Kind}
@@ -7,11 +8,14 @@ use Rattle.letter.specs.declared.letter.Kind.TheVariants.{Request, Disclosure, R
 use Rattle.letter.specs.declared.letter.Letter.{Letter}
 use Rattle.letter.specs.declared.refusal.Refusal.{Refusal}
 use Rattle.letter.specs.declared.refusal.Refusal.TheVariants.{CutShort, Malformed, NoSuchKind, ItemTooLarge, BufferTooShort}
-use Rattle.letter.specs.Letters.{kind_number, kind_of}
+use Rattle.letter.specs.Letters.{kind_number, kind_of, kind_answer}
 use Rattle.letter.specs.Numbers.{leb, NumberThen, Cut, NumberRead}
 use Rattle.letter.specs.Bytes.{letter_bytes, LetterThen, CutItem, OtherKind, LargeItem, LetterAnswer, LetterRead, WrittenBack, write_answer, write_bytes}
 use Rattle.letter.proofs.Refused.{same_refusal, refused, refuses}
 use Rattle.letter.proofs.Reading.{ok_parts, reads_leb}
+
+pub no_ok : {X E : Type 0} (e : E) (x : X) → ◌≡◌ {A = Result X E} (Err e) (Ok x) → ⊥
+no_ok e x p = cc
 
 kind_small : (k : Kind) → kind_number k < 2 ^ 21
 kind_small Request = omega arith
@@ -30,6 +34,21 @@ number_of_kind n Request e = grind arith
 number_of_kind n Disclosure e = grind arith
 number_of_kind n RequestAck e = grind arith
 number_of_kind n DisclosureAck e = grind arith
+
+-- what a kind's number tells of it
+kind_told : (o : Option Kind) (k : Kind) → Ok k ≡ ok_or o NoSuchKind → o ≡ Some k
+kind_told None k e = absurd (no_ok NoSuchKind k (sym e))
+kind_told (Some j) k e = cc
+
+none_told : (o : Option Kind) (f : Refusal) → Err f ≡ ok_or o NoSuchKind → (o ≡ None) × (f ≡ NoSuchKind)
+none_told None f e = (refl, (cc))
+none_told (Some j) f e = absurd (no_ok f j e)
+
+pub is_kind : (n : ℕ) {k : Kind} → Ok k ≡ kind_answer n → kind_of n ≡ Some k
+is_kind n {k} e = kind_told (kind_of n) k e
+
+pub no_kind : (n : ℕ) {f : Refusal} → Err f ≡ kind_answer n → (kind_of n ≡ None) × (f ≡ NoSuchKind)
+no_kind n {f} e = none_told (kind_of n) f e
 
 -- the two numbers of a letter
 first_of : {bytes : List ℕ} {l : Letter} {rest : List ℕ} → LetterThen bytes l rest → NumberThen bytes (kind_number l.kind) (leb l.item ++ rest)
@@ -66,11 +85,8 @@ from_why bytes answer why once =
       malformed = λ a b c d. refuses answer Malformed (once (Err Malformed) (record { letter = a; cut = b; kind = c; item = d }));
     }
 
-pub no_ok : {X E : Type 0} (e : E) (x : X) → ◌≡◌ {A = Result X E} (Err e) (Ok x) → ⊥
-no_ok e x p = let z : ◌≡◌ {A = ℕ} 0 1 = cc in omega arith
-
 -- no number stands first
-module _ (bytes : List ℕ) (e : Refusal) (first : NumberRead bytes (Err e)) where
+module _ {bytes : List ℕ} {e : Refusal} (first : NumberRead bytes (Err e)) where
   pub none : (n : ℕ) (rest : List ℕ) → NumberThen bytes n rest → ⊥
   none n rest q = no_ok e (n, rest) ((first.read n rest).1 q)
 
@@ -93,22 +109,22 @@ module _ (bytes : List ℕ) (e : Refusal) (first : NumberRead bytes (Err e)) whe
   once_none (Err BufferTooShort) s = absurd s
 
 -- a number that cannot be read is cut short or malformed
-pub err_cases : (bytes : List ℕ) (e : Refusal) → NumberRead bytes (Err e) → ((e ≡ CutShort) × Cut bytes) ⊎ ((e ≡ Malformed) × (Cut bytes → ⊥))
-err_cases bytes CutShort r = inl (refl, r.cut.0 refl)
-err_cases bytes Malformed r = inr (refl, λ u. omega (arith, r.cut.1 u))
-err_cases bytes NoSuchKind r = absurd (omega (arith, r.malformed (none bytes NoSuchKind r) (λ u. omega (arith, r.cut.1 u))))
-err_cases bytes ItemTooLarge r = absurd (omega (arith, r.malformed (none bytes ItemTooLarge r) (λ u. omega (arith, r.cut.1 u))))
-err_cases bytes BufferTooShort r = absurd (omega (arith, r.malformed (none bytes BufferTooShort r) (λ u. omega (arith, r.cut.1 u))))
+pub err_cases : {bytes : List ℕ} (e : Refusal) → NumberRead bytes (Err e) → ((e ≡ CutShort) × Cut bytes) ⊎ ((e ≡ Malformed) × (Cut bytes → ⊥))
+err_cases CutShort r = inl (refl, r.cut.0 refl)
+err_cases Malformed r = inr (refl, λ u. omega (arith, r.cut.1 u))
+err_cases NoSuchKind r = absurd (omega (arith, r.malformed (none r) (λ u. omega (arith, r.cut.1 u))))
+err_cases ItemTooLarge r = absurd (omega (arith, r.malformed (none r) (λ u. omega (arith, r.cut.1 u))))
+err_cases BufferTooShort r = absurd (omega (arith, r.malformed (none r) (λ u. omega (arith, r.cut.1 u))))
 
-pub no_first : (bytes : List ℕ) (e : Refusal) → NumberRead bytes (Err e) → LetterRead bytes (Err e)
-no_first bytes e first =
-    elim (err_cases bytes e first) [
-      | inl p ↦ from_why bytes (Err e) (rw p.0 (inl p.1)) (once_none bytes e first)
-      | inr p ↦ from_why bytes (Err e) (rw p.0 (neither bytes e first p.1)) (once_none bytes e first)
+pub no_first : {bytes : List ℕ} {e : Refusal} → NumberRead bytes (Err e) → LetterRead bytes (Err e)
+no_first {bytes} {e} first =
+    elim (err_cases e first) [
+      | inl p ↦ from_why bytes (Err e) (rw p.0 (inl p.1)) (once_none first)
+      | inr p ↦ from_why bytes (Err e) (rw p.0 (neither first p.1)) (once_none first)
     ]
 
 -- a number stands first
-module _ (bytes behind : List ℕ) (n : ℕ) (first : NumberRead bytes (Ok (n, behind))) where
+module _ {bytes behind : List ℕ} {n : ℕ} (first : NumberRead bytes (Ok (n, behind))) where
   number : NumberThen bytes n behind
   number = (first.read n behind).0 refl
 
@@ -124,8 +140,7 @@ module _ (bytes behind : List ℕ) (n : ℕ) (first : NumberRead bytes (Ok (n, b
     clash k rest q =
         let e = (same (kind_number k) rest q).0 in
         let f : kind_of n ≡ Some k = ap kind_of e ∙ kind_of_number k in
-        let z : ◌≡◌ {A = ℕ} 0 1 = cc in
-        omega arith
+        cc
 
     other : OtherKind bytes
     other = record { kind = n; behind = behind; first = number; none = strange }
@@ -143,7 +158,7 @@ module _ (bytes behind : List ℕ) (n : ℕ) (first : NumberRead bytes (Ok (n, b
     strange_kind = from_why bytes (Err NoSuchKind) other once_other
 
   -- or it is a kind's: all hangs on the second number
-  module _ (k : Kind) (known : kind_of n ≡ Some k) where
+  module _ {k : Kind} (known : kind_of n ≡ Some k) where
     first_kind : NumberThen bytes (kind_number k) behind
     first_kind = subst (λ m. NumberThen bytes m behind) (number_of_kind n k known) number
 
@@ -157,8 +172,7 @@ module _ (bytes behind : List ℕ) (n : ℕ) (first : NumberRead bytes (Ok (n, b
     not-other o =
         let e = (same o.kind o.behind o.first).0 in
         let f : kind_of n ≡ None = ap kind_of e ∙ o.none in
-        let z : ◌≡◌ {A = ℕ} 0 1 = cc in
-        omega arith
+        cc
 
     from_letter : (l : Letter) (rest : List ℕ) → LetterThen bytes l rest → (k ≡ l.kind) × NumberThen behind l.item rest
     from_letter l rest s =
@@ -176,9 +190,9 @@ module _ (bytes behind : List ℕ) (n : ℕ) (first : NumberRead bytes (Ok (n, b
     cut_item u = record { kind = k; behind = behind; first = first_kind; second = u }
 
     -- no second number
-    module _ (e : Refusal) (second : NumberRead behind (Err e)) where
+    module _ {e : Refusal} (second : NumberRead behind (Err e)) where
       none_second : (i : ℕ) (rest : List ℕ) → NumberThen behind i rest → ⊥
-      none_second = none behind e second
+      none_second = none second
 
       neither_second : (Cut behind → ⊥) → Neither bytes
       neither_second uncut =
@@ -199,13 +213,13 @@ module _ (bytes behind : List ℕ) (n : ℕ) (first : NumberRead bytes (Ok (n, b
 
       pub no_second : LetterRead bytes (Err e)
       no_second =
-          elim (err_cases behind e second) [
+          elim (err_cases e second) [
             | inl p ↦ from_why bytes (Err e) (rw p.0 (inr (cut_item p.1))) once_cut
             | inr p ↦ from_why bytes (Err e) (rw p.0 (neither_second p.1)) once_cut
           ]
 
     -- a second number
-    module _ (i : ℕ) (rest : List ℕ) (second : NumberRead behind (Ok (i, rest))) where
+    module _ {i : ℕ} {rest : List ℕ} (second : NumberRead behind (Ok (i, rest))) where
       item : NumberThen behind i rest
       item = (second.read i rest).0 refl
 
@@ -254,7 +268,7 @@ pub reads_letter : (l : Letter) (rest : List ℕ) → l.item < 256 → LetterRea
 reads_letter l rest h =
     let b = leb l.item ++ rest in
     let e = append_assoc (leb (kind_number l.kind)) (leb l.item) rest in
-    rw e (good_letter (leb (kind_number l.kind) ++ b) b (kind_number l.kind) (reads_leb (kind_number l.kind) b (kind_small l.kind)) l.kind (kind_of_number l.kind) l.item rest (reads_leb l.item rest (omega arith)) h)
+    rw e (good_letter (reads_leb (kind_number l.kind) b (kind_small l.kind)) (kind_of_number l.kind) (reads_leb l.item rest (omega arith)) h)
 
 -- what was read, written over itself
 module _ (bytes : List ℕ) (l : Letter) (rest : List ℕ) (s : LetterThen bytes l rest) where

@@ -1,5 +1,5 @@
 -- Where a number ends among bytes, and which bytes are a number's.
-use Rattle.std.proofs.Common.{◌≡◌, ℕ, zero, suc, ◌+◌, ◌*◌, ◌/◌, ◌%◌, ◌^◌, ◌<◌, ◌≤◌, List, [], ◌∷◌, ◌++◌, length, sym, refl, ap, ◌∙◌, inl, inr, arith}
+use Rattle.std.proofs.Common.{◌≡◌, ℕ, zero, suc, ◌+◌, ◌*◌, ◌/◌, ◌%◌, ◌^◌, ◌<◌, ◌≤◌, List, [], ◌∷◌, ◌++◌, length, sym, refl, ap, ◌∙◌, inl, inr, ⊎_elim, arith}
 use Rattle.std.proofs.lemmas.Bool.{cases_lt, lt-ltb, le-ltb}
 use Rattle.letter.specs.Numbers.{groups, leb, value_of, TopBitSet, Whole, EncodingLaw}
 
@@ -108,6 +108,13 @@ many_above [] last p h k = absurd (omega arith)
 many_above (a ∷ []) last p h k = absurd (omega arith)
 many_above (a ∷ b ∷ []) last p h k = absurd (omega arith)
 many_above (a ∷ b ∷ c ∷ cs) last p h k = let v = value_pos cs last p h in omega arith
+
+pub few_groups : (n : ℕ) → n < 2 ^ 21 → length (leb_shape n).front ≤ 2
+few_groups n small =
+    let s = leb_shape n in
+    let w = s.whole in
+    let v = s.value in
+    ⊎_elim (λ l. omega arith) (λ l. absurd (let m = many_above s.front s.last (w.shortest (omega arith)) w.ends l in omega arith)) (cases_lt (length s.front) 3)
 
 -- the first group without a mark is where a number ends
 pub same_end : (a b : List ℕ) (x y : ℕ) (r s : List ℕ) → TopBitSet a → TopBitSet b → x < 128 → y < 128 → a ++ x ∷ r ≡ b ++ y ∷ s → (a ≡ b) × (x ≡ y) × (r ≡ s)

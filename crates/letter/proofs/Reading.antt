@@ -1,11 +1,12 @@
 -- What reading a number answers, by where the number ends.
-use Rattle.std.proofs.Common.{◌≡◌, ℕ, ◌+◌, ◌-◌, ◌*◌, ◌%◌, ◌^◌, ◌<◌, ◌≤◌, List, [], ◌∷◌, ◌++◌, length, get_or, take, drop, Ok, Err, Result, sym, refl, ap, ◌∙◌, subst, ⊎_elim, append_assoc, arith, length-append}
-use Rattle.std.proofs.lemmas.List.{append-nil, length-take-le, take-append-drop, take_all, take_more, drop_more, take_rest}
-use Rattle.std.proofs.ByRecursion.{All-push}
-use Rattle.std.proofs.lemmas.Bool.{cases_lt}
+use Rattle.std.proofs.Common.{◌≡◌, ℕ, ◌+◌, ◌*◌, ◌%◌, ◌^◌, ◌<◌, ◌≤◌, zero, suc, List, [], ◌∷◌, ◌++◌, reverse, length, get_or, take, drop, bit_and, bit_or, Fits, w8, Ok, Err, Result, sym, refl, ap, ◌∙◌, subst, append_assoc, arith, length-append}
+use Rattle.std.proofs.lemmas.List.{append-nil, length-take-le, take-append-drop, take_all, take_more, drop_more, reverse-append}
+use Rattle.std.proofs.lemmas.List.Sums.{fold_push}
+use Rattle.std.proofs.lemmas.Grind.{common_steps}
+use Rattle.std.specs.List.{fold}
 use Rattle.letter.specs.declared.refusal.Refusal.TheVariants.{CutShort, Malformed}
 use Rattle.letter.specs.Numbers.{leb, value_of, TopBitSet, Whole, NumberThen, Cut, NumberRead}
-use Rattle.letter.proofs.Groups.{leb_of, leb_shape, few_below, many_above, same_end, longer_front}
+use Rattle.letter.proofs.Groups.{leb_of, leb_shape, few_below, many_above, few_groups, same_end, longer_front}
 
 -- what the bytes of a number and what follows them agree with
 follows : (n : ℕ) (rest : List ℕ) → leb n ++ rest ≡ (leb_shape n).front ++ (leb_shape n).last ∷ rest
@@ -51,9 +52,7 @@ module _ (front : List ℕ) (last : ℕ) (rest : List ℕ) (whole : Whole front 
 pub reads_leb : (n : ℕ) (rest : List ℕ) → n < 2 ^ 21 → NumberRead (leb n ++ rest) (Ok (n, rest))
 reads_leb n rest small =
     let s = leb_shape n in
-    let w = s.whole in
-    let few : length s.front ≤ 2 = ⊎_elim (λ l. omega arith) (λ l. absurd (let v = s.value in let m = many_above s.front s.last (w.shortest (omega arith)) w.ends l in omega arith)) (cases_lt (length s.front) 3) in
-    rw follows (subst (λ v. NumberRead (s.front ++ s.last ∷ rest) (Ok (v, rest))) s.value (reads_whole s.front s.last rest w few))
+    rw follows (subst (λ v. NumberRead (s.front ++ s.last ∷ rest) (Ok (v, rest))) s.value (reads_whole s.front s.last rest s.whole (few_groups n small)))
 
 -- groups with their top bit set, fewer than three, and no more bytes
 module _ (bytes : List ℕ) (continued : TopBitSet bytes) (few : length bytes ≤ 2) where
@@ -79,7 +78,7 @@ module _ (bytes : List ℕ) (continued : TopBitSet bytes) (few : length bytes �
   pub reads_cut : NumberRead bytes (Err CutShort)
   reads_cut =
       record {
-        read = λ n r. ((λ e. absurd (let z : ◌≡◌ {A = ℕ} 0 1 = cc in omega arith)), (λ q. absurd (none_whole n r q)));
+        read = λ n r. ((λ e. cc), (λ q. absurd (none_whole n r q)));
         cut = ((λ e. cut_here), (λ c. refl));
         malformed = λ f g. absurd (g cut_here);
       }
@@ -88,7 +87,7 @@ module _ (bytes : List ℕ) (continued : TopBitSet bytes) (few : length bytes �
 pub reads_neither : (bytes : List ℕ) → ((n : ℕ) (rest more : List ℕ) → n < 2 ^ 21 → leb n ++ rest ≡ bytes ++ more → ⊥) → NumberRead bytes (Err Malformed)
 reads_neither bytes never =
     record {
-      read = λ n r. ((λ e. absurd (let z : ◌≡◌ {A = ℕ} 0 1 = cc in omega arith)), (λ q. absurd (never n r [] q.small (sym q.bytes_are ∙ sym (append-nil bytes)))));
+      read = λ n r. ((λ e. cc), (λ q. absurd (never n r [] q.small (sym q.bytes_are ∙ sym (append-nil bytes)))));
       cut = ((λ e. absurd (omega arith)), (λ c. absurd (never c.number [] c.missing c.small (append-nil (leb c.number) ∙ sym c.bytes_are))));
       malformed = λ f g. refl;
     }
@@ -112,67 +111,60 @@ reads_long front rest continued three =
     let v = s.value in
     omega arith
 
--- the value with one group more, as it is added up
-value_more : (xs : List ℕ) (g p x : ℕ) → length xs ≡ p → p ≤ 2 → x ≡ g % 128 → value_of xs + x * 2 ^ (7 * p) % 2 ^ 32 ≡ value_of (xs ++ g ∷ [])
-value_more [] g p x l h e = rw (← l) (omega arith)
-value_more (a ∷ []) g p x l h e = rw (← l) (omega arith)
-value_more (a ∷ b ∷ []) g p x l h e = rw (← l) (omega arith)
-value_more (a ∷ b ∷ c ∷ cs) g p x l h e = absurd (omega arith)
+-- the value is put together from the last group on
+abbrev pub with_group : ℕ → ℕ → ℕ
+with_group v g = bit_or (v * 2 ^ 7 % 2 ^ 32) (bit_and g 127)
 
-value_few : (xs : List ℕ) (g : ℕ) → length xs ≤ 2 → value_of (xs ++ g ∷ []) < 2 ^ 32
-value_few [] g h = omega arith
-value_few (a ∷ []) g h = omega arith
-value_few (a ∷ b ∷ []) g h = omega arith
-value_few (a ∷ b ∷ c ∷ cs) g h = absurd (omega arith)
+one_more_group : (v g : ℕ) → v < 2 ^ 14 → with_group v g ≡ g % 128 + 128 * v
+one_more_group v g h = grind (arith, common_steps)
 
--- the reader at place p, having read only groups with their top bit set, of the value v
-pub record Reading (bytes : List ℕ) (p v : ℕ) : Type 0 where
-  pub within : p ≤ length bytes
-  pub continued : TopBitSet (take p bytes)
-  pub value : v ≡ value_of (take p bytes)
+value_few : (gs : List ℕ) → length gs ≤ 2 → value_of gs < 2 ^ 14
+value_few [] h = omega arith
+value_few (a ∷ []) h = omega arith
+value_few (a ∷ b ∷ []) h = omega arith
+value_few (a ∷ b ∷ c ∷ cs) h = absurd (omega arith)
 
-module _ (bytes : List ℕ) (p v : ℕ) (at : Reading bytes p v) where
+pub folded : (gs : List ℕ) → length gs ≤ 3 → fold with_group 0 (reverse gs) ≡ value_of gs
+folded [] h = refl
+folded (g ∷ gs) h =
+    ap (fold with_group 0) (reverse-append (g ∷ []) gs) ∙ fold_push with_group 0 (reverse gs) g
+    ∙ ap (λ v. with_group v g) (folded gs (omega arith)) ∙ one_more_group (value_of gs) g (value_few gs (omega arith))
+
+continued : (bytes : List ℕ) (p : ℕ) → p ≤ length bytes → ((k : ℕ) → Fits w8 (get_or bytes k 0)) → ((k : ℕ) → k < p → 128 ≤ get_or bytes k 0) → TopBitSet (take p bytes)
+continued bytes zero within fit top_bit = tt
+continued [] (suc p) within fit top_bit = absurd (omega arith)
+continued (b ∷ bs) (suc p) within fit top_bit =
+    ((top_bit 0 (omega arith), let f = fit 0 in omega arith), continued bs p (omega arith) (λ k. fit (suc k)) (λ k h. top_bit (suc k) (omega arith)))
+
+-- the bytes before place p have their top bit set
+module _ (bytes : List ℕ) (fit : (k : ℕ) → Fits w8 (get_or bytes k 0)) (p : ℕ) (within : p ≤ length bytes) (top_bit : (k : ℕ) → k < p → 128 ≤ get_or bytes k 0) where
+  marked : TopBitSet (take p bytes)
+  marked = continued bytes p within fit top_bit
+
   far : length (take p bytes) ≡ p
-  far = length-take-le p bytes at.within
+  far = length-take-le p bytes within
 
   pub at_end : length bytes ≤ p → p < 3 → NumberRead bytes (Err CutShort)
   at_end h few =
       let e = take_all p bytes h in
-      reads_cut bytes (rw e at at.continued) (let w = at.within in omega arith)
+      reads_cut bytes (rw e at marked) (omega arith)
 
   pub at_third : p ≡ 3 → NumberRead bytes (Err Malformed)
-  at_third e = subst (λ b. NumberRead b (Err Malformed)) (take-append-drop p bytes) (reads_long (take p bytes) (drop p bytes) at.continued (far ∙ e))
+  at_third e = subst (λ b. NumberRead b (Err Malformed)) (take-append-drop p bytes) (reads_long (take p bytes) (drop p bytes) marked (far ∙ e))
 
-  -- at the group g
-  module _ (g : ℕ) (h : p < length bytes) (is : g ≡ get_or bytes p 0) where
-    here : take p bytes ++ g ∷ drop (p + 1) bytes ≡ bytes
-    here = ap (λ x. take p bytes ++ x ∷ drop (p + 1) bytes) is ∙ ap (λ r. take p bytes ++ r) (sym (drop_more bytes p 0 h)) ∙ take-append-drop p bytes
+  -- at a byte
+  module _ (h : p < length bytes) where
+    here : take p bytes ++ get_or bytes p 0 ∷ drop (p + 1) bytes ≡ bytes
+    here = ap (λ r. take p bytes ++ r) (sym (drop_more bytes p 0 h)) ∙ take-append-drop p bytes
 
-    next : take p bytes ++ g ∷ [] ≡ take (p + 1) bytes
-    next = ap (λ x. take p bytes ++ x ∷ []) is ∙ sym (take_more bytes p 0 h)
-
-    pub at_padding : 0 < p → g ≡ 0 → NumberRead bytes (Err Malformed)
+    pub at_padding : 0 < p → get_or bytes p 0 ≡ 0 → NumberRead bytes (Err Malformed)
     at_padding some z =
         subst (λ b. NumberRead b (Err Malformed)) (ap (λ x. take p bytes ++ x ∷ drop (p + 1) bytes) (sym z) ∙ here)
-        (reads_padded (take p bytes) (drop (p + 1) bytes) at.continued (omega (arith, far)))
+        (reads_padded (take p bytes) (drop (p + 1) bytes) marked (omega (arith, far)))
 
-    module _ (few : p < 3) (x : ℕ) (low : x ≡ g % 128) where
-      sum : v + x * 2 ^ (7 * p) % 2 ^ 32 ≡ value_of (take p bytes ++ g ∷ [])
-      sum = rw at.value (value_more (take p bytes) g p x far (omega arith) low)
-
-      pub fits : v + x * 2 ^ (7 * p) % 2 ^ 32 < 2 ^ 32
-      fits = rw sum (value_few (take p bytes) g (omega (arith, far)))
-
-      pub at_last : g < 128 → (0 < p → 0 < g) → NumberRead bytes (Ok (v + x * 2 ^ (7 * p) % 2 ^ 32, take (length bytes - (p + 1)) (drop (p + 1) bytes)))
-      at_last small shortest =
-          rw (sum, take_rest bytes (p + 1))
-          (subst (λ b. NumberRead b (Ok (value_of (take p bytes ++ g ∷ []), drop (p + 1) bytes))) here
-          (reads_whole (take p bytes) g (drop (p + 1) bytes) (record { continued = at.continued; ends = small; shortest = λ k. shortest (omega (arith, far)) }) (omega (arith, far))))
-
-      pub at_mark : 128 ≤ g → g < 256 → Reading bytes (p + 1) (v + x * 2 ^ (7 * p) % 2 ^ 32)
-      at_mark large byte =
-          record {
-            within = omega arith;
-            continued = rw (← next) (All-push (λ y. (128 ≤ y) × (y < 256)) (take p bytes) g at.continued (large, byte));
-            value = sum ∙ ap value_of next;
-          }
+    pub at_last : p < 3 → get_or bytes p 0 < 128 → (0 < p → 0 < get_or bytes p 0) → NumberRead bytes (Ok (value_of (take (p + 1) bytes), drop (p + 1) bytes))
+    at_last few small shortest =
+        rw (take_more bytes p 0 h)
+        (subst (λ b. NumberRead b (Ok (value_of (take p bytes ++ get_or bytes p 0 ∷ []), drop (p + 1) bytes))) here
+        (reads_whole (take p bytes) (get_or bytes p 0) (drop (p + 1) bytes)
+        (record { continued = marked; ends = small; shortest = λ k. shortest (omega (arith, far)) }) (omega (arith, far))))

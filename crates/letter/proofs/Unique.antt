@@ -10,9 +10,9 @@ use Rattle.letter.proofs.Chained.{no_ok, none, err_cases}
 number_once : (bytes : List ℕ) (a b : NumberAnswer) → NumberRead bytes a → NumberRead bytes b → a ≡ b
 number_once bytes a (Ok p) r s = (r.read p.0 p.1).1 ((s.read p.0 p.1).0 refl)
 number_once bytes a (Err e) r s =
-    elim (err_cases bytes e s) [
+    elim (err_cases e s) [
       | inl p ↦ refused a CutShort (r.cut.1 p.1) ∙ ap Err (sym p.0)
-      | inr p ↦ refused a Malformed (r.malformed (none bytes e s) p.1) ∙ ap Err (sym p.0)
+      | inr p ↦ refused a Malformed (r.malformed (none s) p.1) ∙ ap Err (sym p.0)
     ]
 
 letter_once : (bytes : List ℕ) (a b : LetterAnswer) → LetterRead bytes a → LetterRead bytes b → a ≡ b

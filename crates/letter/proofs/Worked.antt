@@ -47,13 +47,13 @@ worked = (
   (
     (bytes_200, read_from (request 200) (0x01 ∷ 0xC8 ∷ 0x01 ∷ []) bytes_200 (omega arith)),
     (
-      (CutShort, no_first (0x80 ∷ 0x80 ∷ []) CutShort (reads_cut (0x80 ∷ 0x80 ∷ []) ((omega arith, omega arith), ((omega arith, omega arith), tt)) (omega arith)), refl),
+      (CutShort, no_first (reads_cut (0x80 ∷ 0x80 ∷ []) ((omega arith, omega arith), ((omega arith, omega arith), tt)) (omega arith)), refl),
       (
-        (Malformed, no_first (0x81 ∷ 0x00 ∷ []) Malformed (reads_padded (0x81 ∷ []) [] (continued 0x81 (omega arith) (omega arith)) (omega arith)), refl),
+        (Malformed, no_first (reads_padded (0x81 ∷ []) [] (continued 0x81 (omega arith) (omega arith)) (omega arith)), refl),
         (
-          (NoSuchKind, strange_kind (0x05 ∷ 0x00 ∷ []) (0x00 ∷ []) 5 (number_from 5 (0x05 ∷ []) (0x00 ∷ []) bytes_5 (omega arith)) refl, refl),
+          (NoSuchKind, strange_kind (number_from 5 (0x05 ∷ []) (0x00 ∷ []) bytes_5 (omega arith)) refl, refl),
           (
-            (ItemTooLarge, large_item_lem (0x01 ∷ 0x80 ∷ 0x02 ∷ []) (0x80 ∷ 0x02 ∷ []) 1 (number_from 1 (0x01 ∷ []) (0x80 ∷ 0x02 ∷ []) bytes_1 (omega arith)) Request refl 256 [] (number_from 256 (0x80 ∷ 0x02 ∷ []) [] bytes_256 (omega arith)) (omega arith), refl),
+            (ItemTooLarge, large_item_lem (number_from 1 (0x01 ∷ []) (0x80 ∷ 0x02 ∷ []) bytes_1 (omega arith)) {k = Request} refl (number_from 256 (0x80 ∷ 0x02 ∷ []) [] bytes_256 (omega arith)) (omega arith), refl),
             tt,
           ),
         ),

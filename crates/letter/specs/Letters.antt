@@ -1,5 +1,6 @@
 -- The four kinds of letters, and the letter that two numbers name.
 use Rattle.std.specs.Prelude.{ℕ, Bool, true, false, cond, Some, None, Ok, Err, Option, Result, ◌==◌, nat_lt}
+use Rattle.std.specs.Option.{ok_or}
 use Rattle.letter.specs.declared.letter.Kind.{Kind}
 use Rattle.letter.specs.declared.letter.Kind.TheVariants.{Request, Disclosure, RequestAck, DisclosureAck}
 use Rattle.letter.specs.declared.letter.Letter.{Letter}
@@ -19,6 +20,10 @@ kind_of n =
     (cond (n == 2) (Some Disclosure)
     (cond (n == 3) (Some RequestAck)
     (cond (n == 4) (Some DisclosureAck) None)))
+
+-- the kind that has this number, or 43
+abbrev pub kind_answer : ℕ → Result Kind Refusal
+kind_answer n = ok_or (kind_of n) NoSuchKind
 
 -- requests and disclosures are data letters
 abbrev pub is_data : Kind → Bool

@@ -17,13 +17,9 @@ impl Letter {
         ensures written_back { WrittenBack bytes.now (with_contents (λ x. x.now) result) }
     {
         let (kind, behind) = read_number(bytes)?;
-        let Some(kind) = Kind::from_number(kind) else {
-            return Err(Refusal::NoSuchKind);
-        };
+        let kind = Kind::try_from(kind)?;
         let (item, rest) = read_number(behind)?;
-        let Ok(item) = u8::try_from(item) else {
-            return Err(Refusal::ItemTooLarge);
-        };
+        let item = u8::try_from(item).map_err(|_| Refusal::ItemTooLarge)?;
         Ok((Letter { kind, item }, rest))
     }
 
@@ -32,12 +28,13 @@ impl Letter {
         ensures { Written (Ok self) out.old result out.new }
     {
         let mut bytes = [0u8; LONGEST];
-        let behind = write_number(u32::from(self.kind.number()), &mut bytes, 0);
-        let length = write_number(u32::from(self.item), &mut bytes, behind);
+        let behind = write_number(u32::from(u8::from(self.kind)), &mut bytes);
+        let length = behind + write_number(u32::from(self.item), &mut bytes[behind..]);
+        // No `get_mut`: nothing would be known of the bytes of `out` after it.
         if out.len() < length {
             return Err(Refusal::BufferTooShort);
         }
-        out[0..length].copy_from_slice(&bytes[0..length]);
+        out[..length].copy_from_slice(&bytes[..length]);
         Ok(length)
     }
 }

@@ -22,8 +22,7 @@ impl fmt::Display for Kind {
     ghost output = { λ k. Some (kind_name k) };
 
     fn fmt<W: fmt::Write>(&self, f: &mut fmt::Formatter<W>) -> fmt::Result {
-        let name = self.name();
-        write!(f, "{name}")
+        f.write_str(self.name())
     }
 }
 
@@ -31,8 +30,6 @@ impl fmt::Display for Letter {
     ghost output = { λ l. Some (letter_name l) };
 
     fn fmt<W: fmt::Write>(&self, f: &mut fmt::Formatter<W>) -> fmt::Result {
-        let kind = self.kind;
-        let item = self.item;
-        write!(f, "{kind} {item}")
+        write!(f, "{} {}", self.kind, self.item)
     }
 }

@@ -1,5 +1,5 @@
 ghost use Rattle.std.specs.Prelude.{◌≡◌};
-ghost use Rattle.letter.specs.Letters.{kind_number, kind_of, is_data, goes_to_source, letter_of};
+ghost use Rattle.letter.specs.Letters.{kind_number, kind_answer, is_data, goes_to_source, letter_of};
 
 use crate::refusal::Refusal;
 
@@ -17,48 +17,48 @@ pub enum Kind {
 }
 
 impl Kind {
-    /// The number of the kind on the wire.
-    pub fn number(self) -> u8
-        ensures { result ≡ kind_number self }
-    {
-        match self {
-            Kind::Request => 1,
-            Kind::Disclosure => 2,
-            Kind::RequestAck => 3,
-            Kind::DisclosureAck => 4,
-        }
-    }
-
-    /// The kind with this number.
-    pub fn from_number(number: u32) -> Option<Kind>
-        ensures { result ≡ kind_of number }
-    {
-        match number {
-            1 => Some(Kind::Request),
-            2 => Some(Kind::Disclosure),
-            3 => Some(Kind::RequestAck),
-            4 => Some(Kind::DisclosureAck),
-            _ => None,
-        }
-    }
-
     /// Requests and disclosures are data letters; the others acknowledge one.
     pub fn is_data(self) -> bool
         ensures { result ≡ is_data self }
     {
-        match self {
-            Kind::Request | Kind::Disclosure => true,
-            Kind::RequestAck | Kind::DisclosureAck => false,
-        }
+        matches!(self, Kind::Request | Kind::Disclosure)
     }
 
     /// Whether such a letter goes to the item's source; the others go to its destination.
     pub fn goes_to_source(self) -> bool
         ensures { result ≡ goes_to_source self }
     {
-        match self {
-            Kind::Request | Kind::DisclosureAck => true,
-            Kind::Disclosure | Kind::RequestAck => false,
+        matches!(self, Kind::Request | Kind::DisclosureAck)
+    }
+}
+
+/// The number of the kind on the wire.
+impl From<Kind> for u8 {
+    ghost from_gives = { λ k n. n ≡ kind_number k };
+
+    fn from(kind: Kind) -> u8 {
+        match kind {
+            Kind::Request => 1,
+            Kind::Disclosure => 2,
+            Kind::RequestAck => 3,
+            Kind::DisclosureAck => 4,
+        }
+    }
+}
+
+/// The kind with this number.
+impl TryFrom<u32> for Kind {
+    type Error = Refusal;
+
+    ghost try_from_gives = { λ n r. r ≡ kind_answer n };
+
+    fn try_from(number: u32) -> Result<Kind, Refusal> {
+        match number {
+            1 => Ok(Kind::Request),
+            2 => Ok(Kind::Disclosure),
+            3 => Ok(Kind::RequestAck),
+            4 => Ok(Kind::DisclosureAck),
+            _ => Err(Refusal::NoSuchKind),
         }
     }
 }
@@ -72,15 +72,12 @@ pub struct Letter {
 
 impl Letter {
     /// The letter that two numbers from outside name; the kind is judged first.
+    // Not a `TryFrom` of a pair, which would not say which number is which.
     pub fn from_numbers(kind: u32, item: u32) -> Result<Letter, Refusal>
         ensures { result ≡ letter_of kind item }
     {
-        let Some(kind) = Kind::from_number(kind) else {
-            return Err(Refusal::NoSuchKind);
-        };
-        match u8::try_from(item) {
-            Ok(item) => Ok(Letter { kind, item }),
-            Err(_) => Err(Refusal::ItemTooLarge),
-        }
+        let kind = Kind::try_from(kind)?;
+        let item = u8::try_from(item).map_err(|_| Refusal::ItemTooLarge)?;
+        Ok(Letter { kind, item })
     }
 }

@@ -1,5 +1,5 @@
-ghost use Rattle.std.specs.Prelude.{◌≡◌, ◌+◌, ◌^◌, ◌<◌, ◌≤◌, ◌++◌, length, take, drop};
-ghost use Rattle.letter.specs.Numbers.{leb, NumberRead, with_contents};
+ghost use Rattle.std.specs.Prelude.{◌≡◌, ◌^◌, ◌<◌, ◌≤◌, ◌++◌, length, drop};
+ghost use Rattle.letter.specs.Numbers.{leb, value_of, NumberRead, with_contents};
 
 use crate::refusal::Refusal;
 
@@ -13,35 +13,45 @@ const TOP_BIT: u8 = 0x80;
 pub fn read_number(bytes: &[u8]) -> Result<(u32, &[u8]), Refusal>
     ensures { NumberRead bytes.now (with_contents (λ x. x.now) result) }
 {
-    let mut value: u32 = 0;
-    for place in 0..MOST_GROUPS {
-        let Some(&group) = bytes.get(place) else {
-            return Err(Refusal::CutShort);
-        };
-        value += u32::from(group & 0x7F) << (7 * place);
-        if group < TOP_BIT {
-            if place > 0 && group == 0 {
-                return Err(Refusal::Malformed);
-            }
-            return Ok((value, &bytes[place + 1..]));
-        }
+    let last = bytes
+        .iter()
+        .take(MOST_GROUPS)
+        .position(|&group| group < TOP_BIT);
+    match last {
+        None if bytes.len() < MOST_GROUPS => Err(Refusal::CutShort),
+        None => Err(Refusal::Malformed),
+        Some(last) if last > 0 && bytes[last] == 0 => Err(Refusal::Malformed),
+        Some(last) => Ok((spelled(&bytes[..=last]), &bytes[last + 1..])),
     }
-    Err(Refusal::Malformed)
 }
 
-/// Writes the number at a place of `out`, and answers the place behind it.
-pub(crate) fn write_number(number: u32, out: &mut [u8], at: usize) -> usize
-    requires { (number < 2 ^ 21) × (at + 3 ≤ length out.old) }
-    ensures end { (result ≡ at + length (leb number)) × (length (leb number) ≤ 3) }
-    ensures bytes { out.new ≡ take at out.old ++ (leb number ++ drop (at + length (leb number)) out.old) }
+/// The number that at most three groups spell.
+fn spelled(groups: &[u8]) -> u32
+    requires { length groups.now ≤ 3 }
+    ensures { result ≡ value_of groups.now }
+{
+    groups
+        .iter()
+        .rev()
+        .fold(0, |value, &group| (value << 7) | u32::from(group & 0x7F))
+}
+
+/// Writes the number to the front of `out`, and answers its length.
+#[tactic(auto, using(crate::proofs::Places::ends, crate::proofs::Places::last, crate::proofs::Places::leb_short))]
+pub(crate) fn write_number(number: u32, out: &mut [u8]) -> usize
+    requires { (number < 2 ^ 21) × (3 ≤ length out.old) }
+    ensures end { (result ≡ length (leb number)) × (length (leb number) ≤ 3) }
+    ensures bytes { out.new ≡ leb number ++ drop (length (leb number)) out.old }
 {
     let mut left = number;
-    let mut place = at;
-    while left >= 0x80 {
-        out[place] = 0x80 | (left & 0x7F) as u8;
+    for (place, group) in out.iter_mut().enumerate() {
+        if left < 0x80 {
+            *group = left as u8;
+            return place + 1;
+        }
+        *group = 0x80 | (left & 0x7F) as u8;
         left >>= 7;
-        place += 1;
     }
-    out[place] = left as u8;
-    place + 1
+    // `out` has room for all three groups.
+    unreachable!()
 }

@@ -1,5 +1,9 @@
-ghost use Rattle.std.specs.Prelude.{◌≡◌};
+ghost use Rattle.std.specs.Prelude.{◌≡◌, Some};
+ghost use Rattle.letter.specs.Names.{refusal_name};
 ghost use Rattle.letter.specs.Refusals.{refusal_number};
+
+use std::error::Error;
+use std::fmt;
 
 /// Why bytes or numbers are turned down.
 #[derive(Clone, Copy, PartialEq, Eq, Debug)]
@@ -16,12 +20,12 @@ pub enum Refusal {
     BufferTooShort,
 }
 
-impl Refusal {
-    /// The number that stands for this refusal outside the program.
-    pub fn number(self) -> u8
-        ensures { result ≡ refusal_number self }
-    {
-        match self {
+/// The number that stands for the refusal outside the program.
+impl From<Refusal> for u8 {
+    ghost from_gives = { λ e n. n ≡ refusal_number e };
+
+    fn from(refusal: Refusal) -> u8 {
+        match refusal {
             Refusal::CutShort => 41,
             Refusal::Malformed => 42,
             Refusal::NoSuchKind => 43,
@@ -30,3 +34,14 @@ impl Refusal {
         }
     }
 }
+
+/// The refusal by its number, as `refusal 41`.
+impl fmt::Display for Refusal {
+    ghost output = { λ e. Some (refusal_name e) };
+
+    fn fmt<W: fmt::Write>(&self, f: &mut fmt::Formatter<W>) -> fmt::Result {
+        write!(f, "refusal {}", u8::from(*self))
+    }
+}
+
+impl Error for Refusal {}

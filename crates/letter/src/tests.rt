@@ -1,29 +1,20 @@
 use crate::number::write_number;
 use crate::{Kind, Letter, Refusal, read_number, write_numbers};
 
-/// The number at the front of the bytes and how many bytes follow it, or the number of the refusal.
-fn number_of(bytes: &[u8]) -> Result<(u32, usize), u8> {
-    match read_number(bytes) {
-        Ok((number, rest)) => Ok((number, rest.len())),
-        Err(refusal) => Err(refusal.number()),
-    }
-}
-
-/// The same for a letter.
-fn letter_of(bytes: &[u8]) -> Result<(Letter, usize), u8> {
-    match Letter::read(bytes) {
-        Ok((letter, rest)) => Ok((letter, rest.len())),
-        Err(refusal) => Err(refusal.number()),
-    }
+/// What was read and how many bytes follow it, or the number of the refusal.
+// The number, since it is what is tested.
+fn told<T>(answer: Result<(T, &[u8]), Refusal>) -> Result<(T, usize), u8> {
+    let (read, rest) = answer.map_err(u8::from)?;
+    Ok((read, rest.len()))
 }
 
 #[test]
 fn unsigned_examples_of_the_dwarf_standard(rt: HostRuntime) {
-    assert_eq!(rt; number_of(&[0x02]), Ok((2, 0)));
-    assert_eq!(rt; number_of(&[0x7F]), Ok((127, 0)));
-    assert_eq!(rt; number_of(&[0x80, 0x01]), Ok((128, 0)));
-    assert_eq!(rt; number_of(&[0x81, 0x01]), Ok((129, 0)));
-    assert_eq!(rt; number_of(&[0xB9, 0x64]), Ok((12857, 0)));
+    assert_eq!(rt; told(read_number(&[0x02])), Ok((2, 0)));
+    assert_eq!(rt; told(read_number(&[0x7F])), Ok((127, 0)));
+    assert_eq!(rt; told(read_number(&[0x80, 0x01])), Ok((128, 0)));
+    assert_eq!(rt; told(read_number(&[0x81, 0x01])), Ok((129, 0)));
+    assert_eq!(rt; told(read_number(&[0xB9, 0x64])), Ok((12857, 0)));
 }
 
 fn written(number: u32) -> Option<([u8; 4], usize)> {
@@ -31,7 +22,7 @@ fn written(number: u32) -> Option<([u8; 4], usize)> {
         return None;
     }
     let mut out = [0xEE; 4];
-    let end = write_number(number, &mut out, 0);
+    let end = write_number(number, &mut out);
     Some((out, end))
 }
 
@@ -47,23 +38,26 @@ fn the_same_examples_written(rt: HostRuntime) {
 
 #[test]
 fn numbers_and_their_refusals(rt: HostRuntime) {
-    assert_eq!(rt; number_of(&[]), Err(41));
-    assert_eq!(rt; number_of(&[0x80]), Err(41));
-    assert_eq!(rt; number_of(&[0x80, 0x80]), Err(41));
-    assert_eq!(rt; number_of(&[0x80, 0x80, 0x80]), Err(42));
-    assert_eq!(rt; number_of(&[0x80, 0x80, 0x80, 0x01]), Err(42));
-    assert_eq!(rt; number_of(&[0x80, 0x00]), Err(42));
-    assert_eq!(rt; number_of(&[0x81, 0x00]), Err(42));
-    assert_eq!(rt; number_of(&[0x81, 0x80, 0x00]), Err(42));
-    assert_eq!(rt; number_of(&[0x00, 0x80]), Ok((0, 1)));
-    assert_eq!(rt; number_of(&[0x80, 0x80, 0x01]), Ok((16384, 0)));
-    assert_eq!(rt; number_of(&[0xFF, 0xFF, 0x7F, 0x00]), Ok((2097151, 1)));
+    assert_eq!(rt; told(read_number(&[])), Err(41));
+    assert_eq!(rt; told(read_number(&[0x80])), Err(41));
+    assert_eq!(rt; told(read_number(&[0x80, 0x80])), Err(41));
+    assert_eq!(rt; told(read_number(&[0x80, 0x80, 0x80])), Err(42));
+    assert_eq!(rt; told(read_number(&[0x80, 0x80, 0x80, 0x01])), Err(42));
+    assert_eq!(rt; told(read_number(&[0x80, 0x00])), Err(42));
+    assert_eq!(rt; told(read_number(&[0x81, 0x00])), Err(42));
+    assert_eq!(rt; told(read_number(&[0x81, 0x80, 0x00])), Err(42));
+    assert_eq!(rt; told(read_number(&[0x00, 0x80])), Ok((0, 1)));
+    assert_eq!(rt; told(read_number(&[0x80, 0x80, 0x01])), Ok((16384, 0)));
+    assert_eq!(rt;
+        told(read_number(&[0xFF, 0xFF, 0x7F, 0x00])),
+        Ok((2097151, 1))
+    );
 }
 
 #[test]
 fn letters_read(rt: HostRuntime) {
     assert_eq!(rt;
-        letter_of(&[0x01, 0x7F]),
+        told(Letter::read(&[0x01, 0x7F])),
         Ok((
             Letter {
                 kind: Kind::Request,
@@ -73,7 +67,7 @@ fn letters_read(rt: HostRuntime) {
         ))
     );
     assert_eq!(rt;
-        letter_of(&[0x01, 0xC8, 0x01]),
+        told(Letter::read(&[0x01, 0xC8, 0x01])),
         Ok((
             Letter {
                 kind: Kind::Request,
@@ -83,7 +77,7 @@ fn letters_read(rt: HostRuntime) {
         ))
     );
     assert_eq!(rt;
-        letter_of(&[0x02, 0x03, 0x80]),
+        told(Letter::read(&[0x02, 0x03, 0x80])),
         Ok((
             Letter {
                 kind: Kind::Disclosure,
@@ -93,7 +87,7 @@ fn letters_read(rt: HostRuntime) {
         ))
     );
     assert_eq!(rt;
-        letter_of(&[0x03, 0x00]),
+        told(Letter::read(&[0x03, 0x00])),
         Ok((
             Letter {
                 kind: Kind::RequestAck,
@@ -103,7 +97,7 @@ fn letters_read(rt: HostRuntime) {
         ))
     );
     assert_eq!(rt;
-        letter_of(&[0x04, 0xFF, 0x01]),
+        told(Letter::read(&[0x04, 0xFF, 0x01])),
         Ok((
             Letter {
                 kind: Kind::DisclosureAck,
@@ -116,17 +110,17 @@ fn letters_read(rt: HostRuntime) {
 
 #[test]
 fn letters_turned_down(rt: HostRuntime) {
-    assert_eq!(rt; letter_of(&[]), Err(41));
-    assert_eq!(rt; letter_of(&[0x80, 0x80]), Err(41));
-    assert_eq!(rt; letter_of(&[0x01]), Err(41));
-    assert_eq!(rt; letter_of(&[0x01, 0xC8]), Err(41));
-    assert_eq!(rt; letter_of(&[0x81, 0x00]), Err(42));
-    assert_eq!(rt; letter_of(&[0x01, 0x80, 0x00]), Err(42));
-    assert_eq!(rt; letter_of(&[0x01, 0x80, 0x80, 0x80]), Err(42));
-    assert_eq!(rt; letter_of(&[0x00, 0x00]), Err(43));
-    assert_eq!(rt; letter_of(&[0x05]), Err(43));
-    assert_eq!(rt; letter_of(&[0x05, 0x00]), Err(43));
-    assert_eq!(rt; letter_of(&[0x01, 0x80, 0x02]), Err(44));
+    assert_eq!(rt; told(Letter::read(&[])), Err(41));
+    assert_eq!(rt; told(Letter::read(&[0x80, 0x80])), Err(41));
+    assert_eq!(rt; told(Letter::read(&[0x01])), Err(41));
+    assert_eq!(rt; told(Letter::read(&[0x01, 0xC8])), Err(41));
+    assert_eq!(rt; told(Letter::read(&[0x81, 0x00])), Err(42));
+    assert_eq!(rt; told(Letter::read(&[0x01, 0x80, 0x00])), Err(42));
+    assert_eq!(rt; told(Letter::read(&[0x01, 0x80, 0x80, 0x80])), Err(42));
+    assert_eq!(rt; told(Letter::read(&[0x00, 0x00])), Err(43));
+    assert_eq!(rt; told(Letter::read(&[0x05])), Err(43));
+    assert_eq!(rt; told(Letter::read(&[0x05, 0x00])), Err(43));
+    assert_eq!(rt; told(Letter::read(&[0x01, 0x80, 0x02])), Err(44));
 }
 
 #[test]
@@ -164,5 +158,5 @@ fn numbers_from_outside(rt: HostRuntime) {
     assert_eq!(rt; out, [0xEE, 0xEE]);
     assert_eq!(rt; write_numbers(4, 3, &mut out), Ok(2));
     assert_eq!(rt; out, [0x04, 0x03]);
-    assert_eq!(rt; Refusal::BufferTooShort.number(), 45);
+    assert_eq!(rt; u8::from(Refusal::BufferTooShort), 45);
 }

@@ -3,8 +3,7 @@ use Rattle.std.specs.Prelude.{◌≡◌, ℕ, ◌<◌, ◌⊎◌, List, [], ◌+
 use Rattle.std.specs.List.{flat_map, AllByRecursion}
 use Rattle.letter.specs.declared.letter.Letter.{Letter}
 use Rattle.letter.specs.declared.refusal.Refusal.{Refusal}
-use Rattle.letter.specs.Refusals.{refusal_number}
-use Rattle.letter.specs.Names.{letter_name}
+use Rattle.letter.specs.Names.{letter_name, refusal_name}
 use Rattle.letter.specs.Bytes.{letter_bytes, LetterRead}
 
 -- a line for each letter
@@ -13,7 +12,7 @@ letter_line l = letter_name l ++ codes "\n"
 
 -- a line for bytes that are no letter, with their offset in the capture
 abbrev pub refusal_line : Refusal → ℕ → List ℕ
-refusal_line e offset = codes "refusal " ++ (decimal (refusal_number e) ++ (codes " at " ++ (decimal offset ++ codes "\n")))
+refusal_line e offset = refusal_name e ++ (codes " at " ++ (decimal offset ++ codes "\n"))
 
 -- the last line
 abbrev pub count_line : ℕ → List ℕ

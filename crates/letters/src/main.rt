@@ -9,7 +9,7 @@ fn main(rt: HostRuntime) -> anyhow::Result<()> {
     let heap = rt.alloc();
     let mut capture = Vec::new(heap);
     rt.stdin().read_to_end(&mut capture)?;
-    let text = report::report(heap, capture.as_slice())?;
+    let text = report::report(heap, &capture)?;
     rt.print(text)?;
     Ok(())
 }

@@ -4,6 +4,7 @@ ghost use Rattle.letters.specs.Report.{OneText, Reported};
 
 use letter::Letter;
 use std::alloc::{AllocError, Global};
+use std::fmt::Write;
 
 /// A line for each letter of the capture, a line for the first bytes that are no letter, and the count of letters.
 pub fn report(heap: Global, capture: &[u8]) -> Result<String, AllocError>
@@ -12,25 +13,22 @@ pub fn report(heap: Global, capture: &[u8]) -> Result<String, AllocError>
     let mut text = String::new(heap);
     let mut rest = capture;
     let mut count: usize = 0;
+    // An iterator over the letters would be no plainer: the count and the rest are needed behind it.
     while !rest.is_empty() {
         match Letter::read(rest) {
             Ok((letter, behind)) => {
-                let line = format!(in heap; "{letter}\n")?;
-                text.push_str(line.as_str())?;
+                writeln!(text, "{letter}")?;
                 count += 1;
                 rest = behind;
             }
             Err(refusal) => {
-                let number = refusal.number();
                 let offset = capture.len() - rest.len();
-                let line = format!(in heap; "refusal {number} at {offset}\n")?;
-                text.push_str(line.as_str())?;
+                writeln!(text, "{refusal} at {offset}")?;
                 break;
             }
         }
     }
-    let line = format!(in heap; "{count} letters\n")?;
-    text.push_str(line.as_str())?;
+    writeln!(text, "{count} letters")?;
     Ok(text)
 }
 

@@ -1,56 +1,65 @@
--- Chains as entries are put in.
-use Rattle.std.proofs.Common.{◌≡◌, ℕ, suc, ◌+◌, ◌<◌, false, cond, eqb, List, [], ◌∷◌, ◌++◌, length, get_or, take, set, replicate, sym, refl, ap, ◌∙◌, inl, inr, arith, length-append}
-use lib.ListN.{get_or-replicate}
-use Rattle.std.proofs.lemmas.List.{get_or_past, length-replicate, get_or-set_same, get_or-set_other, get_or_append_left, get_or-append-add, take-append-le, take_at}
-use Rattle.std.proofs.lemmas.Bool.{cases_lt}
-use Rattle.std.proofs.lemmas.Bool.Decides.{eqb_tells}
-use Rattle.table.specs.Held.{pushed}
-use Rattle.links.specs.Chain.{last_of}
+-- The latest entry with a key, as entries are put in.
+use Rattle.std.proofs.Common.{◌≡◌, ℕ, zero, suc, ◌-◌, ◌<◌, Bool, true, false, cond, eqb, List, [], ◌∷◌, ◌++◌, length, get_or, set, replicate, Some, None, Option, refl, arith, length-append}
+use Rattle.std.specs.List.{slice_get}
+use Rattle.std.specs.Option.{option_or, option_map}
+use Rattle.std.proofs.lemmas.List.{map-append, get_or-replicate, get_or-set_same, get_or-set_other, get_or_append_left, get_or-append_right, take-append-le, take_at}
+use Rattle.std.proofs.lemmas.Grind.{get_or_head, get_or_tail}
+use lib.ListN.{length-map}
+use Rattle.links.specs.declared.chains.Entry.{Entry}
+use Rattle.links.specs.Chain.{latest, earlier, keys_of, HoldLatest, HoldEarlier}
+use Rattle.links.specs.Keys.{Latest, ChainLaw}
 
-pub last_push : (xs : List ℕ) (x k : ℕ) → last_of (xs ++ x ∷ []) k ≡ cond (eqb x k) (suc (length xs)) (last_of xs k)
+last_push : (ks : List ℕ) (x k : ℕ) → latest (ks ++ x ∷ []) k ≡ cond (eqb x k) (Some (length ks)) (latest ks k)
 last_push [] x k = refl
-last_push (y ∷ ys) x k = let r = last_push ys x k in grind arith
+last_push (y ∷ ys) x k = rw (last_push ys x k) (step (eqb x k) (latest ys k))
+  where
+    step : (b : Bool) (m : Option ℕ) → option_or (option_map suc (cond b (Some (length ys)) m)) (cond (eqb y k) (Some 0) None) ≡ cond b (Some (suc (length ys))) (option_or (option_map suc m) (cond (eqb y k) (Some 0) None))
+    step true m = refl
+    step false m = refl
 
-module _ (ks : List ℕ) (key : ℕ) where
-  abbrev all : List ℕ
-  all = ks ++ key ∷ []
+earlier_more : (ks : List ℕ) (x e : ℕ) → earlier (ks ++ x ∷ []) e ≡ cond (eqb e (length ks)) (latest ks x) (earlier ks e)
+earlier_more ks x e = let n = length-append ks (x ∷ []) in grind (arith, take-append-le e ks (x ∷ []), take_at ks (x ∷ []) e, get_or_append_left ks (x ∷ []) 0 e, get_or-append_right ks (x ∷ []) (length ks) e 0)
 
-  pub latest_push : (first : List ℕ) (link : ℕ) → length first ≡ 256 → key < 256 → link ≡ length ks + 1 → ((k : ℕ) → k < 256 → get_or first k 0 ≡ last_of ks k) → (k : ℕ) → k < 256 → get_or (set first key link) k 0 ≡ last_of all k
-  latest_push first link n b e h k l =
-      elim (eqb_tells key k) [
-        | inl t ↦
-            let same : link ≡ suc (length ks) = omega arith in
-            ap (λ x. get_or (set first key link) x 0) (sym t.1) ∙ get_or-set_same first key link 0 (omega arith) ∙ same ∙ sym (last_push ks key k ∙ ap (λ c. cond c (suc (length ks)) (last_of ks k)) t.0)
-        | inr t ↦
-            get_or-set_other first key k link 0 (λ q. t.1 (sym q)) ∙ h k l ∙ sym (last_push ks key k ∙ ap (λ c. cond c (suc (length ks)) (last_of ks k)) t.0)
-      ]
+slice_get_more : {X : Type 0} (xs : List X) (x : X) (i : ℕ) → slice_get (xs ++ x ∷ []) i ≡ cond (eqb i (length xs)) (Some x) (slice_get xs i)
+slice_get_more [] x zero = refl
+slice_get_more [] x (suc i) = let e : eqb (suc i) 0 ≡ false = grind arith in rw e refl
+slice_get_more (y ∷ ys) x zero = let e : eqb 0 (suc (length ys)) ≡ false = grind arith in rw e refl
+slice_get_more (y ∷ ys) x (suc i) = let e : eqb (suc i) (suc (length ys)) ≡ eqb i (length ys) = grind arith in rw e (slice_get_more ys x i)
 
-  pub earlier_push : (next : List ℕ) (value : ℕ) → length ks < length next → value ≡ last_of ks key → ((e : ℕ) → e < length ks → get_or next e 0 ≡ last_of (take e ks) (get_or ks e 0)) →
-      (e : ℕ) → e < length all → get_or (set next (length ks) value) e 0 ≡ last_of (take e all) (get_or all e 0)
-  earlier_push next value room is h e l =
-      let n = length-append ks (key ∷ []) in
-      elim (cases_lt e (length ks)) [
-        | inl k ↦
-            get_or-set_other next (length ks) e value 0 (omega arith) ∙ h e k ∙ sym (ap (λ t. last_of t (get_or all e 0)) (take-append-le e ks (key ∷ []) (omega arith)) ∙ ap (last_of (take e ks)) (get_or_append_left ks (key ∷ []) 0 e k))
-        | inr k ↦
-            let q : e ≡ length ks = omega arith in
-            let z : length ks ≡ length ks + 0 = omega arith in
-            ap (λ x. get_or (set next (length ks) value) x 0) q ∙ get_or-set_same next (length ks) value 0 room ∙ is
-            ∙ sym (ap (λ x. last_of (take x all) (get_or all x 0)) q ∙ ap (λ t. last_of t (get_or all (length ks) 0)) (take_at ks (key ∷ []) (length ks) refl) ∙ ap (λ x. last_of ks (get_or all x 0)) z ∙ ap (last_of ks) (get_or-append-add ks (key ∷ []) 0 0))
-      ]
+chained : (ks : List ℕ) (k : ℕ) → Latest ks k (latest ks k)
+chained [] k = λ e l q. absurd (omega arith)
+chained (x ∷ xs) k = go (latest xs k) (chained xs k) (eqb x k) refl
+  where
+    go : (r : Option ℕ) → Latest xs k r → (b : Bool) → eqb x k ≡ b → Latest (x ∷ xs) k (option_or (option_map suc r) (cond b (Some 0) None))
+    go (Some m) f b h = (let a = f.0 in omega arith, f.1, (λ e a l q. let z = f.2 (e - 1) in grind (arith, get_or_tail x xs e 0)))
+    go None f true h = (omega arith, grind arith, (λ e a l q. let z = f (e - 1) in grind (arith, get_or_tail x xs e 0)))
+    go None f false h = λ e l q. let z = f (e - 1) in grind (arith, get_or_tail x xs e 0, get_or_head x xs e 0)
 
-zeros : (m q : ℕ) → ◌≡◌ {A = ℕ} (get_or (replicate m 0) q 0) 0
-zeros m q =
-    elim (cases_lt q m) [
-      | inl l ↦ get_or-replicate m q 0 0 l
-      | inr l ↦ get_or_past (replicate m 0) q 0 (let e : length (replicate {A = ℕ} m 0) ≡ m = length-replicate m 0 in omega arith)
-    ]
+pub chain_law : ChainLaw
+chain_law = chained
 
-pub none_latest : (ks : List ℕ) → ks ≡ [] → (n k : ℕ) → get_or (replicate n 0) k 0 ≡ last_of ks k
-none_latest ks e n k = zeros n k ∙ sym (ap (λ x. last_of x k) e)
+module _ {T : Type 0} (es : List (Entry T)) where
+  pub none_latest : (n : ℕ) → es ≡ [] → (k : ℕ) → k < n → get_or (replicate n None) k None ≡ latest (keys_of es) k
+  none_latest n e k h = rw e (get_or-replicate n k None None h)
 
-pub none_earlier : (ks next : List ℕ) → ks ≡ [] → (e : ℕ) → e < length ks → get_or next e 0 ≡ last_of (take e ks) (get_or ks e 0)
-none_earlier ks next e k l = absurd (let z = ap length e in omega arith)
+  pub none_earlier : es ≡ [] → HoldEarlier es
+  none_earlier e k = rw e (grind arith)
 
-pub pushed_is : (n : ℕ) (ks : List ℕ) (key : ℕ) → (length ks ≡ n → ⊥) → pushed n ks key ≡ ks ++ key ∷ []
-pushed_is n ks key h = let b : eqb (length ks) n ≡ false = grind arith in ap (λ t. cond t ks (ks ++ key ∷ [])) b
+  module _ (x : Entry T) where
+    keys_more : keys_of (es ++ x ∷ []) ≡ keys_of es ++ x.key ∷ []
+    keys_more = map-append (λ e. e.key) es (x ∷ [])
+
+    pub latest_push : (found : List (Option ℕ)) → length found ≡ 256 → x.key < 256 → HoldLatest es found → HoldLatest (es ++ x ∷ []) (set found x.key (Some (length (keys_of es))))
+    latest_push found n small h k l =
+        let a = last_push (keys_of es) x.key k in
+        let b = h k l in
+        let m = Some (length (keys_of es)) in
+        rw keys_more (grind (arith, get_or-set_same found x.key m None, get_or-set_other found x.key k m None))
+
+    pub earlier_push : x.earlier ≡ latest (keys_of es) x.key → HoldEarlier es → HoldEarlier (es ++ x ∷ [])
+    earlier_push is h e =
+        let a = earlier_more (keys_of es) x.key e in
+        let b = slice_get_more es x e in
+        let c = h e in
+        let s = length-map es (λ e. e.key) in
+        rw (keys_more, b) (grind arith)

@@ -1,30 +1,22 @@
 -- What chains of entries answer.
-use Rattle.std.specs.Prelude.{◌≡◌, ℕ, zero, suc, ◌<◌, ◌≤◌, cond, ◌≢◌, ◌⊎◌, List, [], ◌∷◌, ◌++◌, length, take, Some, None, Ok, Err, Option, Result, nat_lt, slice_index}
+use Rattle.std.specs.Prelude.{◌≡◌, ℕ, ◌<◌, ◌≤◌, ◌≢◌, ◌⊎◌, List, [], ◌∷◌, ◌++◌, map, length, Some, None, Ok, Err, Option, Result, slice_index}
 use Rattle.table.specs.declared.store.Full.{Full}
 use Rattle.table.specs.Held.{held}
-use Rattle.links.specs.Chain.{last_of}
+use Rattle.links.specs.Chain.{latest, keys_of}
 use Rattle.links.specs.declared.chains.Links.{Links}
 
 -- the keys of all entries, in order
-abbrev pub keys : {N : ℕ} → Links N → List ℕ
-keys l = held l.keys
+abbrev pub keys : {T : Type 0} {N : ℕ} → Links T N → List ℕ
+keys l = keys_of (held l.entries)
 
--- a push puts the key behind the others, or is turned down and changes nothing: where there are N entries or 65,535
-abbrev pub Pushed : ℕ → List ℕ → ℕ → Result (Unit {0}) Full → List ℕ → Type 0
-Pushed n before key (Ok u) after = after ≡ before ++ key ∷ []
-Pushed n before key (Err f) after = (after ≡ before) × ((length before ≡ n) ⊎ (65535 ≤ length before))
+-- the values of all entries, in order
+abbrev pub values : {T : Type 0} {N : ℕ} → Links T N → List T
+values l = map (λ e. e.value) (held l.entries)
 
-abbrev pub as_entry : ℕ → Option ℕ
-as_entry zero = None
-as_entry (suc e) = Some e
-
--- the last entry with a key
-abbrev pub latest : List ℕ → ℕ → Option ℕ
-latest ks k = as_entry (last_of ks k)
-
--- the last one before an entry that has its key; none past the end
-abbrev pub earlier : List ℕ → ℕ → Option ℕ
-earlier ks e = cond (nat_lt e (length ks)) (as_entry (last_of (take e ks) (slice_index ks e))) None
+-- a push puts something behind the others, or is turned down and changes nothing: where there are N entries or 65,535
+abbrev pub Pushed : {X : Type 0} → ℕ → List X → X → Result (Unit {0}) Full → List X → Type 0
+Pushed n before x (Ok u) after = after ≡ before ++ x ∷ []
+Pushed n before x (Err f) after = (after ≡ before) × ((length before ≡ n) ⊎ (65535 ≤ length before))
 
 -- the last entry with the key, and none behind it has it; or no entry has it
 abbrev pub Latest : List ℕ → ℕ → Option ℕ → Type 0

@@ -1,31 +1,40 @@
-ghost use Rattle.std.specs.Prelude.{◌≡◌, ⊤, ℕ, ◌<◌, length, take, slice_index};
+ghost use Rattle.std.specs.Prelude.{◌≡◌, ⊤, length};
 ghost use Rattle.table.specs.Held.{held};
-ghost use Rattle.links.specs.Chain.{last_of};
+ghost use Rattle.links.specs.Chain.{HoldLatest, HoldEarlier};
 
 use std::alloc::AllocError;
 use table::Table;
 
 mod methods;
 
-/// At most `N` entries, each with a key below 256. `first` and `next` hold an entry's number and 1, or 0 for none.
-pub struct Links<const N: usize> {
-    keys: Table<u8, N>,
-    first: [u16; 256],
-    next: [u16; N],
-    ghost all: { length first ≡ 256 },
-    ghost room: { length next ≡ N },
-    ghost latest: { (k : ℕ) → k < 256 → slice_index first k ≡ last_of (held keys) k },
-    ghost earlier: { (e : ℕ) → e < length (held keys) → slice_index next e ≡ last_of (take e (held keys)) (slice_index (held keys) e) },
+/// A key, what is kept with it, and the latest entry before this one that has the key.
+#[derive(Clone, Copy)]
+struct Entry<T> {
+    key: u8,
+    value: T,
+    earlier: Option<u16>,
 }
 
-impl<const N: usize> Clone for Links<N> {
+/// At most `N` entries, each with a key below 256 and a value, and for each key the latest entry that has it.
+// Numbers of entries, not boxes or a map: the memory is fixed.
+pub struct Links<T, const N: usize> {
+    entries: Table<Entry<T>, N>,
+    latest: [Option<u16>; 256],
+    ghost all: { length latest ≡ 256 },
+    ghost latest_held: { HoldLatest (held entries) latest },
+    ghost earlier_held: { HoldEarlier (held entries) },
+}
+
+// Not derived: `Clone` is refused over the ghost fields of a generic type. No `Model`: its value would have to have the unused
+// entries too, for `Copy`.
+impl<T: Copy, const N: usize> Clone for Links<T, N> {
     ghost is_clone = { λ x y. y ≡ x };
 
     ghost is_infallible = { λ _. ⊤ };
 
-    fn clone(&self) -> Result<Links<N>, AllocError> {
+    fn clone(&self) -> Result<Links<T, N>, AllocError> {
         Ok(*self)
     }
 }
 
-impl<const N: usize> Copy for Links<N> {}
+impl<T: Copy, const N: usize> Copy for Links<T, N> {}

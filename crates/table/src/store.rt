@@ -5,6 +5,7 @@ use std::alloc::AllocError;
 mod methods;
 
 /// At most `N` values, in the order in which they were put in. It allocates nothing.
+// The kit's `ArrayVec` is no `Copy`, and a table is copied by a plain copy, which cannot fail.
 pub struct Table<T, const N: usize> {
     slots: [T; N],
     len: usize,
@@ -12,6 +13,8 @@ pub struct Table<T, const N: usize> {
     ghost whole: { length slots ≡ N },
 }
 
+// Not derived: `Clone` is refused over the ghost fields of a generic type. No `Model`: its value would have to have the unused
+// slots too, for `Copy`.
 impl<T: Copy, const N: usize> Clone for Table<T, N> {
     ghost is_clone = { λ x y. y ≡ x };
 

@@ -1,7 +1,7 @@
 -- What waits in the lent places, oldest first.
-use Rattle.std.specs.Prelude.{◌≡◌, ℕ, ◌+◌, ◌<◌, min, cond, ◌⊎◌, List, [], ◌∷◌, ◌++◌, length, take, drop, Some, None, Ok, Err, Option, Result, ◌==◌, nat_lt, slice_set}
+use Rattle.std.specs.Prelude.{◌≡◌, ℕ, ◌+◌, ◌-◌, ◌<◌, min, cond, List, [], ◌∷◌, ◌++◌, length, take, drop, Some, None, Ok, Err, Option, Result, ◌==◌, nat_lt, slice_set}
 use Rattle.waiting.specs.declared.line.Line.{Line}
-use Rattle.waiting.specs.declared.line.Full.{Full}
+use Rattle.table.specs.declared.store.Full.{Full}
 
 -- the `count` things from `start` on, going round the end
 unfoldable pub around : {X : Type 0} → List X → ℕ → ℕ → List X
@@ -29,12 +29,6 @@ abbrev pub Taken : {X : Type 0} → List X → Line → Option X → Line → Ty
 Taken places line (Some x) line2 = waiting places line ≡ x ∷ waiting places line2
 Taken places line None line2 = (waiting places line ≡ []) × (line2 ≡ line)
 
--- For the inner contracts.
--- the place behind a place
-abbrev pub next : ℕ → ℕ → ℕ
-next size place = cond (nat_lt (place + 1) size) (place + 1) 0
-
--- the place behind `count` places from `start` on
-pub record Behind (size start count place : ℕ) : Type 0 where
-  pub within : place < size
-  pub is : (place ≡ start + count) ⊎ (place + size ≡ start + count)
+-- For the inner contracts: the place `steps` places behind a place, going round the end.
+abbrev pub behind : ℕ → ℕ → ℕ → ℕ
+behind size start steps = cond (nat_lt (start + steps) size) (start + steps) (start + steps - size)

@@ -2,9 +2,8 @@
 #![tactic(auto)]
 
 mod line;
-mod ring;
 #[cfg(test)]
 mod tests;
 
-pub use line::{Full, Line};
-pub use ring::{count, put, take};
+pub use line::Line;
+pub use table::Full;

@@ -1,59 +1,57 @@
+ghost use Rattle.std.specs.Prelude.{◌≡◌};
 ghost use Rattle.house.specs.Filling.{AddsParty, AddsAsk, Judges, AddsRule, AddsLine, TakesLine};
 
+use super::Draft;
 use super::body::Body;
-use super::bytes::concerns;
 use crate::entries::{MOST_BODY, Rule};
-use crate::tables::Tables;
 use book::{Fault, ItemParts, Line, Part, Reader};
 use table::Table;
 
-impl Tables {
+impl Draft<'_> {
     /// Enrols a party.
-    fn add_party(&mut self, text: &[u8], name: Part) -> Result<(), Fault>
-        ensures { AddsParty text.now self.old name result self.new }
+    fn add_party(&mut self, name: Part) -> Result<(), Fault>
+        ensures adds { AddsParty self.old.text.now self.old.tables name result self.new.tables }
+        ensures same_text { self.new.text ≡ self.old.text }
     {
         if name.length == 1 {
             return Err(Fault::OneLetter);
         }
-        if self.party_named(text, name).is_some() {
+        if self.party_named(name).is_some() {
             return Err(Fault::EnrolledBefore);
         }
-        match self.parties.push(name) {
-            Ok(()) => Ok(()),
-            Err(_) => Err(Fault::TooMany),
-        }
+        self.tables.parties.push(name).map_err(|_| Fault::TooMany)
     }
 
     /// Registers the asked item.
-    fn add_ask(&mut self, text: &[u8], item: ItemParts) -> Result<(), Fault>
-        ensures { AddsAsk text.now self.old item result self.new }
+    fn add_ask(&mut self, item: ItemParts) -> Result<(), Fault>
+        ensures adds { AddsAsk self.old.text.now self.old.tables item result self.new.tables }
+        ensures same_text { self.new.text ≡ self.old.text }
     {
         if item.single {
             return Err(Fault::OneLetter);
         }
-        if !self.enrols_ends(text, item) {
+        if !self.enrols_ends(item) {
             return Err(Fault::NotEnrolled);
         }
-        let number = self.register(text, item)?;
-        if self.asked.is_some() {
+        let number = self.register(item)?;
+        if self.tables.asked.is_some() {
             return Err(Fault::SecondAsk);
         }
-        self.asked = Some(number);
+        self.tables.asked = Some(number);
         Ok(())
     }
 
     /// Judges the names of a rule: one letter, not enrolled, strange to the owner.
-    fn judge(&self, text: &[u8], head: ItemParts, body: Body) -> Result<(), Fault>
-        ensures { Judges text.now self.now head body result }
+    fn judge(&self, head: ItemParts, body: Body<'_>) -> Result<(), Fault>
+        ensures { Judges self.now.text.now self.now.tables head body.entry result }
     {
         let mut single = head.single;
-        let mut enrolled = self.enrols_ends(text, head);
+        let mut enrolled = self.enrols_ends(head);
         let mut strange = false;
-        let mut left = body;
-        while let Some(item) = left.next(text) {
+        for item in body {
             single |= item.single;
-            enrolled &= self.enrols_ends(text, item);
-            strange |= !concerns(text, head.source, item);
+            enrolled &= self.enrols_ends(item);
+            strange |= !self.concerns(head.source, item);
         }
         if single {
             return Err(Fault::OneLetter);
@@ -68,51 +66,48 @@ impl Tables {
     }
 
     /// Registers the items of a rule and puts it behind the others.
-    fn add_rule(&mut self, text: &[u8], head: ItemParts, body: Body) -> Result<(), Fault>
-        ensures { AddsRule text.now self.old head body result self.new }
+    fn add_rule(&mut self, head: ItemParts, body: Body<'_>) -> Result<(), Fault>
+        ensures adds { AddsRule self.old.text.now self.old.tables head body.entry result self.new.tables }
+        ensures same_text { self.new.text ≡ self.old.text }
     {
-        self.judge(text, head, body)?;
+        self.judge(head, body)?;
         if body.count > MOST_BODY {
             return Err(Fault::TooMany);
         }
         let mut rule = Rule {
-            head: self.register(text, head)?,
+            head: self.register(head)?,
             body: Table::new(0),
         };
-        let mut left = body;
-        while let Some(item) = left.next(text) {
-            let number = self.register(text, item)?;
+        for item in body {
+            let number = self.register(item)?;
             if !rule.body.as_slice().contains(&number) {
-                let _ = rule.body.push(number);
+                rule.body.push(number).map_err(|_| Fault::TooMany)?;
             }
         }
-        match self.rules.push(rule) {
-            Ok(()) => Ok(()),
-            Err(_) => Err(Fault::TooMany),
-        }
+        self.tables.rules.push(rule).map_err(|_| Fault::TooMany)
     }
 
     /// Adds what a line says, or answers its smallest fault.
-    fn add_line(&mut self, text: &[u8], line: Line) -> Result<(), Fault>
-        ensures { AddsLine text.now self.old line result self.new }
+    fn add_line(&mut self, line: Line) -> Result<(), Fault>
+        ensures adds { AddsLine self.old.text.now self.old.tables line result self.new.tables }
+        ensures same_text { self.new.text ≡ self.old.text }
     {
         match line {
-            Line::Party(name) => self.add_party(text, name),
-            Line::Hold(head) => self.add_rule(text, head, Body { place: 0, count: 0 }),
-            Line::Rule { head, body, count } => self.add_rule(
-                text,
-                head,
-                Body { place: body, count },
-            ),
-            Line::Ask(item) => self.add_ask(text, item),
+            Line::Party(name) => self.add_party(name),
+            Line::Hold(head) => self.add_rule(head, Body::new(self.text, 0, 0)),
+            Line::Rule { head, body, count } => {
+                self.add_rule(head, Body::new(self.text, body, count))
+            }
+            Line::Ask(item) => self.add_ask(item),
         }
     }
 
     /// Reads the line at the reader's place and adds what it says, or answers its smallest fault.
-    pub(crate) fn next_line(&mut self, text: &[u8], reader: &mut Reader<'_>) -> Result<(), Fault>
-        ensures { TakesLine text.now self.old reader.old result self.new reader.new }
+    pub(super) fn next_line(&mut self, reader: &mut Reader<'_>) -> Result<(), Fault>
+        ensures takes { TakesLine self.old.text.now self.old.tables reader.old result self.new.tables reader.new }
+        ensures same_text { self.new.text ≡ self.old.text }
     {
         let line = reader.line()?;
-        self.add_line(text, line)
+        self.add_line(line)
     }
 }

@@ -1,65 +1,76 @@
+ghost use Rattle.std.specs.Prelude.{◌≡◌, ℕ, ◌<◌, ◌≤◌, map, length};
+ghost use Rattle.std.specs.List.{flat_map};
+ghost use Rattle.links.specs.Keys.{keys, values};
 ghost use Rattle.house.specs.House.{view};
-ghost use Rattle.house.specs.View.{empty_view};
-ghost use Rattle.index.specs.Uses.{Indexes, ItemsAdded, BodyAdded, RulesAdded};
+ghost use Rattle.house.specs.View.{rule_views};
+ghost use Rattle.index.specs.Uses.{Indexes, rules_from};
 
-use super::Index;
-use house::House;
+use super::{Index, MOST_USES};
+use house::{House, Item, Rule};
 use links::Links;
-use table::Table;
+
+/// What a chain through entries goes by: the credential of an item, the head of a rule.
+trait Keyed {
+    ghost key_of: { Self → ℕ };
+
+    fn key(&self) -> u8
+        ensures { result ≡ key_of self.now };
+}
+
+impl Keyed for Item {
+    ghost key_of = { λ i. i.credential };
+
+    fn key(&self) -> u8 {
+        self.credential
+    }
+}
+
+impl Keyed for Rule {
+    ghost key_of = { λ r. r.head };
+
+    fn key(&self) -> u8 {
+        self.head
+    }
+}
+
+/// The entries by their keys.
+fn chained<T: Keyed, const N: usize>(entries: &[T]) -> Links<(), N>
+    requires room { length entries.now ≤ N }
+    requires numbers { N < 65535 }
+    ensures { keys result ≡ map T.key_of entries.now }
+{
+    let mut links = Links::none(());
+    for entry in entries {
+        links.push(entry.key(), ()).unwrap();
+    }
+    links
+}
+
+/// The body items of the rules.
+fn uses(rules: &[Rule]) -> Links<u16, MOST_USES>
+    requires { length rules.now ≤ 512 }
+    ensures items { keys result ≡ flat_map (λ r. r.body) (rule_views rules.now) }
+    ensures rules { values result ≡ rules_from 0 (rule_views rules.now) }
+{
+    let mut uses = Links::none(0);
+    for (number, rule) in rules.iter().enumerate() {
+        for &item in rule.body.as_slice() {
+            uses.push(item, number as u16).unwrap();
+        }
+    }
+    uses
+}
 
 impl Index {
-    /// No chains.
-    fn none() -> Index
-        ensures { Indexes empty_view result }
-    {
-        Index {
-            uses: Links::none(),
-            rules: Table::new(0),
-            heads: Links::none(),
-            credentials: Links::none(),
-        }
-    }
-
-    /// Chains the items by their credentials.
-    fn add_items(&mut self, house: &House)
-        ensures { ItemsAdded (view house.now) self.old self.new }
-    {
-        for number in 0..house.items() {
-            if let Some(item) = house.item(number) {
-                let _ = self.credentials.push(item.credential);
-            }
-        }
-    }
-
-    /// Chains the body items of a rule.
-    fn add_body(&mut self, number: u16, body: &[u8])
-        ensures { BodyAdded number body.now self.old self.new }
-    {
-        for item in body.iter() {
-            let _ = self.uses.push(*item);
-            let _ = self.rules.push(number);
-        }
-    }
-
-    /// Chains the rules by their heads and by the items of their bodies.
-    fn add_rules(&mut self, house: &House)
-        ensures { RulesAdded (view house.now) self.old self.new }
-    {
-        for number in 0..house.rules() {
-            if let Some(rule) = house.rule(number) {
-                let _ = self.heads.push(rule.head);
-                self.add_body(number as u16, rule.body.as_slice());
-            }
-        }
-    }
-
     /// The chains of a house.
     pub fn of(house: &House) -> Index
         ensures { Indexes (view house.now) result }
     {
-        let mut index = Index::none();
-        index.add_items(house);
-        index.add_rules(house);
-        index
+        house.soundness_law();
+        Index {
+            uses: uses(house.rules()),
+            heads: chained(house.rules()),
+            credentials: chained(house.items()),
+        }
     }
 }

@@ -1,18 +1,25 @@
 ghost use Rattle.std.specs.Prelude.{◌≡◌, [], length};
-ghost use Rattle.links.specs.Keys.{keys, Pushed, latest, earlier};
+ghost use Rattle.std.specs.List.{slice_get};
+ghost use Rattle.links.specs.Chain.{latest, earlier};
+ghost use Rattle.links.specs.Keys.{keys, values, Pushed};
 
-use super::Links;
+use super::{Entry, Links};
 use table::{Full, Table};
 
-impl<const N: usize> Links<N> {
-    /// No entries.
-    pub fn none() -> Links<N>
-        ensures { keys result ≡ [] }
+impl<T: Copy, const N: usize> Links<T, N> {
+    /// No entries; `filler` stands in the unused slots.
+    pub fn none(filler: T) -> Self
+        ensures keys { keys result ≡ [] }
+        ensures values { values result ≡ [] }
     {
+        let unused = Entry {
+            key: 0,
+            value: filler,
+            earlier: None,
+        };
         Links {
-            keys: Table::new(0),
-            first: [0; 256],
-            next: [0; N],
+            entries: Table::new(unused),
+            latest: [None; 256],
         }
     }
 
@@ -20,40 +27,47 @@ impl<const N: usize> Links<N> {
     pub fn len(&self) -> usize
         ensures { result ≡ length (keys self.now) }
     {
-        self.keys.len()
+        self.entries.len()
     }
 
-    /// Puts an entry with a key behind the others, unless there is no room.
-    pub fn push(&mut self, key: u8) -> Result<(), Full>
-        ensures { Pushed N (keys self.old) key result (keys self.new) }
+    /// Puts an entry behind the others, unless there are `N` or 65,535.
+    pub fn push(&mut self, key: u8, value: T) -> Result<(), Full>
+        ensures keys { Pushed N (keys self.old) key result (keys self.new) }
+        ensures values { Pushed N (values self.old) value result (values self.new) }
     {
-        let entry = self.keys.len();
-        let Ok(link) = u16::try_from(entry + 1) else {
-            return Err(Full);
-        };
-        if entry == N {
+        let number = self.len();
+        if number >= u16::MAX as usize {
             return Err(Full);
         }
-        self.next[entry] = self.first[key as usize];
-        self.first[key as usize] = link;
-        self.keys.push(key)
+        let place = key as usize;
+        let earlier = self.latest[place];
+        self.entries.push(Entry {
+            key,
+            value,
+            earlier,
+        })?;
+        self.latest[place] = Some(number as u16);
+        Ok(())
     }
 
     /// The latest entry with a key.
     pub fn latest(&self, key: u8) -> Option<u16>
         ensures { result ≡ latest (keys self.now) key }
     {
-        self.first[key as usize].checked_sub(1)
+        self.latest[key as usize]
     }
 
     /// The latest entry before an entry that has the same key.
     pub fn earlier(&self, entry: u16) -> Option<u16>
         ensures { result ≡ earlier (keys self.now) entry }
     {
-        if (entry as usize) < self.keys.len() {
-            self.next[entry as usize].checked_sub(1)
-        } else {
-            None
-        }
+        self.entries.get(entry as usize)?.earlier
+    }
+
+    /// The value of an entry.
+    pub fn value(&self, entry: u16) -> Option<T>
+        ensures { result ≡ slice_get (values self.now) entry }
+    {
+        Some(self.entries.get(entry as usize)?.value)
     }
 }

@@ -25,19 +25,14 @@ impl<T: Copy, const N: usize> Table<T, N> {
     pub fn get(&self, place: usize) -> Option<T>
         ensures { Read (held self.now) place result }
     {
-        if place < self.len {
-            Some(self.slots[place])
-        } else {
-            None
-        }
+        self.as_slice().get(place).copied()
     }
 
     /// All the values, in order.
     pub fn as_slice(&self) -> &[T]
         ensures { result.now ≡ held self.now }
     {
-        let slots = &self.slots[..];
-        &slots[0..self.len]
+        &self.slots[..self.len]
     }
 
     /// Puts a value behind the others, unless the table is full.
@@ -45,6 +40,7 @@ impl<T: Copy, const N: usize> Table<T, N> {
         ensures answer { result ≡ push_answer N (held self.old) }
         ensures after { held self.new ≡ pushed N (held self.old) value }
     {
+        // Not by `get_mut`: it does not say what the slots are afterwards.
         if self.len == N {
             return Err(Full);
         }

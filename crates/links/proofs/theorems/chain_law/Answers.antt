@@ -1,4 +1,4 @@
-use Rattle.links.proofs.Law.{chain_law}
+use Rattle.links.proofs.Latest.{chain_law}
 use Rattle.links.proofs.theorems.chain_law.Goals as goal
 
 pub returns : goal.returns

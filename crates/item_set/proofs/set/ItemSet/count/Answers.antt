@@ -1,49 +1,26 @@
-use Rattle.std.proofs.Common.{◌<◌, get_or, arith, rules}
+use Rattle.std.proofs.Common.{◌*◌, ◌<◌, ◌^◌, get_or, refl, arith, rules}
 use Rattle.std.proofs.lemmas.Nat.{ones-le}
-use Rattle.item_set.proofs.Words.{all_count}
+use Rattle.item_set.specs.Members.{count_to}
+use Rattle.item_set.proofs.Words.{inside}
+use Rattle.item_set.proofs.Counts.{count_le, count_more}
 use Rattle.item_set.proofs.set.ItemSet.count.Goals as goal
 
-pub overflow_cast-result : goal.overflow_cast-result
-overflow_cast-result c = let h : get_or c.args.self.now.words 0 0 < 18446744073709551616 = search rules in let k = ones-le 64 (get_or c.args.self.now.words 0 0) h in omega arith
+pub loop-word-init : goal.loop-word-init
+unfolding count_to
+loop-word-init c = refl
 
-pub overflow_cast-result-2 : goal.overflow_cast-result-2
-overflow_cast-result-2 c = let h : get_or c.args.self.now.words 1 0 < 18446744073709551616 = search rules in let k = ones-le 64 (get_or c.args.self.now.words 1 0) h in omega arith
-
-pub overflow_cast-result-3 : goal.overflow_cast-result-3
-overflow_cast-result-3 c = let h : get_or c.args.self.now.words 2 0 < 18446744073709551616 = search rules in let k = ones-le 64 (get_or c.args.self.now.words 2 0) h in omega arith
-
-pub overflow_cast-result-4 : goal.overflow_cast-result-4
-overflow_cast-result-4 c = let h : get_or c.args.self.now.words 3 0 < 18446744073709551616 = search rules in let k = ones-le 64 (get_or c.args.self.now.words 3 0) h in omega arith
-
-pub overflow_add-result : goal.overflow_add-result
-overflow_add-result c =
-    let h0 : get_or c.args.self.now.words 0 0 < 18446744073709551616 = search rules in
-    let k0 = ones-le 64 (get_or c.args.self.now.words 0 0) h0 in
-    let h1 : get_or c.args.self.now.words 1 0 < 18446744073709551616 = search rules in
-    let k1 = ones-le 64 (get_or c.args.self.now.words 1 0) h1 in
+pub overflow_add-count : goal.overflow_add-count
+overflow_add-count c =
+    let ws = c.args.self.now.words in
+    let i = c.loop-word.word-index in
+    let fits : get_or ws i 0 < 2 ^ 64 = search rules in
+    let few = ones-le 64 (get_or ws i 0) fits in
+    let small = count_le (64 * i) (inside ws) in
     omega arith
 
-pub overflow_add-result-2 : goal.overflow_add-result-2
-overflow_add-result-2 c =
-    let h0 : get_or c.args.self.now.words 0 0 < 18446744073709551616 = search rules in
-    let k0 = ones-le 64 (get_or c.args.self.now.words 0 0) h0 in
-    let h1 : get_or c.args.self.now.words 1 0 < 18446744073709551616 = search rules in
-    let k1 = ones-le 64 (get_or c.args.self.now.words 1 0) h1 in
-    let h2 : get_or c.args.self.now.words 2 0 < 18446744073709551616 = search rules in
-    let k2 = ones-le 64 (get_or c.args.self.now.words 2 0) h2 in
-    omega arith
-
-pub overflow_add-result-3 : goal.overflow_add-result-3
-overflow_add-result-3 c =
-    let h0 : get_or c.args.self.now.words 0 0 < 18446744073709551616 = search rules in
-    let k0 = ones-le 64 (get_or c.args.self.now.words 0 0) h0 in
-    let h1 : get_or c.args.self.now.words 1 0 < 18446744073709551616 = search rules in
-    let k1 = ones-le 64 (get_or c.args.self.now.words 1 0) h1 in
-    let h2 : get_or c.args.self.now.words 2 0 < 18446744073709551616 = search rules in
-    let k2 = ones-le 64 (get_or c.args.self.now.words 2 0) h2 in
-    let h3 : get_or c.args.self.now.words 3 0 < 18446744073709551616 = search rules in
-    let k3 = ones-le 64 (get_or c.args.self.now.words 3 0) h3 in
-    omega arith
-
-pub returns : goal.returns
-returns c = all_count c.args.self.now.words (λ j. search rules)
+pub loop-word-preserved : goal.loop-word-preserved
+loop-word-preserved c =
+    let ws = c.args.self.now.words in
+    let i = c.loop-word.word-index in
+    let fits : get_or ws i 0 < 2 ^ 64 = search rules in
+    omega (arith, count_more ws i fits)

@@ -1,5 +1,9 @@
+use Rattle.std.proofs.Common.{◌≡◌, length}
 use Rattle.item_set.proofs.Words.{United}
 use Rattle.item_set.proofs.set.ItemSet.unite.Given as goal
 
 abbrev pub invariant-loop-place : goal.invariant-loop-place
-invariant-loop-place l = United l.initial.self.words l.other.words l.place l.self.words
+invariant-loop-place l = record {
+  united : United l.initial.word-items l.other.words l.place l.word-items;
+  size : length l.word-items ≡ length l.initial.word-items;
+}

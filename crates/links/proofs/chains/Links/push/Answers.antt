@@ -1,30 +1,20 @@
-use Rattle.std.proofs.Common.{◌≡◌, ◌+◌, ◌<◌, [], ◌∷◌, ◌++◌, length, get_or, take, set, sym, ap, ◌∙◌, subst, arith, length-set, rules}
+use Rattle.std.proofs.Common.{◌≡◌, ◌<◌, [], ◌∷◌, ◌++◌, ◌∙◌, length-set, arith, None, get_or}
 use Rattle.table.specs.Held.{held}
-use Rattle.table.proofs.Slots.{length-held}
-use Rattle.links.specs.Chain.{last_of}
-use Rattle.links.proofs.Latest.{latest_push, earlier_push, pushed_is}
+use Rattle.links.specs.declared.chains.Entry.{Entry}
+use Rattle.links.proofs.Latest.{latest_push, earlier_push}
 use Rattle.links.proofs.chains.Links.push.Goals as goal
 
 pub invariant_of-self : goal.invariant_of-self
 invariant_of-self g c =
     let self = c.args.self.now in
-    let ks = held self.keys in
-    let key = c.args.key in
-    let entry = c.len-entry.ensures in
-    let left = c.if-entry.false in
-    let k = length-held self.keys in
-    let fits = self.keys.fits in
-    let room = self.room in
-    let small = c.ranges.key in
-    let is : held c.push.new.self ≡ ks ++ key ∷ [] = c.push.ensures.after ∙ pushed_is g.row.N ks key (λ e. left (entry ∙ e)) in
-    let link : c.in-Ok.link ≡ length ks + 1 = search rules in
-    record {
-      all = length-set self.first key c.in-Ok.link ∙ self.all;
-      room = length-set self.next c.len-entry.result (get_or self.first key 0) ∙ self.room;
-      latest = λ n l. latest_push ks key self.first c.in-Ok.link self.all (omega arith) link self.latest n l ∙ ap (λ x. last_of x n) (sym is);
-      earlier =
-          λ e l.
-          ap (λ x. get_or (set self.next x (get_or self.first key 0)) e 0) entry
-          ∙ earlier_push ks key self.next (get_or self.first key 0) (omega arith) (self.latest key (omega arith)) self.earlier e (subst (λ x. e < length x) is l)
-          ∙ ap (λ x. last_of (take e x) (get_or x e 0)) (sym is);
-    }
+    let same : held c.push.new.self ≡ held self.entries = grind arith in
+    rw same (record { all = self.all; latest_held = self.latest_held; earlier_held = self.earlier_held })
+
+pub invariant_of-self-2 : goal.invariant_of-self-2
+invariant_of-self-2 g c =
+    let self = c.args.self.now in
+    let es = held self.entries in
+    let x : Entry g.row.T.Denot = record { key = c.args.key; value = c.args.value; earlier = get_or self.latest c.args.key None } in
+    let more : held c.push.new.self ≡ es ++ x ∷ [] = grind arith in
+    let small : c.args.key < 256 = let k = c.ranges.key in omega arith in
+    rw (more, c.len-number.ensures) (record { all = length-set self.latest c.args.key _ ∙ self.all; latest_held = latest_push es x self.latest (omega arith) small self.latest_held; earlier_held = earlier_push es x (self.latest_held c.args.key small) self.earlier_held })
