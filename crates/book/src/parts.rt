@@ -38,6 +38,7 @@ pub enum Line {
     /// An item is held: a rule with an empty body.
     Hold(ItemParts),
     /// A head and a body of `count` items, as written, the first of which is at `body`; `Reader::item` reads each.
+    // A place and a count: nothing is copied, however long the body is.
     Rule {
         head: ItemParts,
         body: usize,

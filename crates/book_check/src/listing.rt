@@ -37,6 +37,7 @@ impl Placed for Item {
 }
 
 /// The text that is printed of a book, as far as it is made.
+// Lines are formatted and then copied: a write to a `Vec` fails with an IO error, and a listing for want of memory alone.
 #[derive(Drop)]
 pub(crate) struct Listing<'a> {
     heap: Global,
@@ -86,7 +87,7 @@ impl<'a> Listing<'a> {
     }
 
     /// `hold 0` or `rule 2 if 1 5`.
-    // No `Display` of `Rule`: it would be this function again, over a formatter.
+    // No `Display` of `Rule`: these are the words of this listing, and it would be no shorter.
     fn put_rule(&mut self, rule: &Rule) -> Result<(), AllocError>
         ensures { OnOk result (Puts self.old self.new (rule_line (rule_view rule.now))) }
     {

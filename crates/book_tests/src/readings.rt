@@ -11,6 +11,7 @@ pub(crate) fn verdict(book: &str) -> Result<(), (u8, usize)> {
 }
 
 /// The verdict on a book of three parties and these lines behind them.
+// With the number, as above.
 pub(crate) fn behind_three(heap: Global, lines: &str) -> Result<Result<(), (u8, usize)>, Fail> {
     let book = format!(in heap; "party Seal\nparty Port\nparty Quay\n{lines}")?;
     Ok(verdict(book.as_str()))

@@ -27,6 +27,6 @@ impl<T: Copy, const N: usize> Clone for Table<T, N> {
 
 impl<T: Copy, const N: usize> Copy for Table<T, N> {}
 
-/// The table has `N` values already.
+/// There is no room for another value.
 #[derive(Clone, Copy, PartialEq, Eq, Debug)]
 pub struct Full;

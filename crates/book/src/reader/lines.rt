@@ -41,7 +41,7 @@ impl<'a> Reader<'a> {
     fn more_items(&mut self) -> Option<usize>
         ensures { Reads (more_in (length (left self.old)) (left self.old)) self.old (λ _ is. length is) more_size result self.new }
     {
-        // Counted here: an iterator of body items could not say that the last one has no form.
+        // Counted here: an iterator would yield an `Option` for each, and counting those is no plainer.
         let mut count = 0;
         while self.keyword(b" and ").is_some() {
             self.item()?;

@@ -13,7 +13,7 @@ pub(super) fn item_at(text: &[u8], place: usize) -> Option<ItemParts>
     Reader::new(text, place).item()
 }
 
-// Items are looked at by `match`: from `is_some_and` the proof does not get what a closure over `self` answers.
+// Items are looked at by `match`: by `is_some_and` the proof does not close, with a clause on the closure or without.
 impl Draft<'_> {
     /// Whether the same bytes stand at two parts.
     pub(super) fn alike(&self, one: Part, other: Part) -> bool

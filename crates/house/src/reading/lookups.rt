@@ -5,7 +5,8 @@ ghost use Rattle.house.specs.Filling.{found_in, alike, ends_enrolled, like_item,
 use super::Draft;
 use book::{ItemParts, Part};
 
-// One chain for each, and no generic one: there nothing is known of a test that is handed on to `position`.
+// One chain for each: a generic one was tried, and the proof does not close, since nothing is known there of a test that is
+// handed on to `position`.
 impl Draft<'_> {
     /// The number of the party with the name that is written at a part.
     pub(super) fn party_named(&self, name: Part) -> Option<u8>
