@@ -79,6 +79,11 @@ fn a_refusal_empties_the_house(rt: HostRuntime) {
     assert_eq!(rt; house.text_length(), 0);
     assert!(rt; read(b"party Seal\n", &mut house).is_ok());
     assert_eq!(rt; house.parties().len(), 1);
+    let held = b"party Port\nhold Port^Port.berth(Q1)>Port\n";
+    assert!(rt; read(held, &mut house).is_ok());
+    assert_eq!(rt; house.rules().len(), 1);
+    assert!(rt; read(b"party Port\nhold Port^Port.berth(Q1)>Port\n?", &mut house).is_err());
+    assert_eq!(rt; house.rules().len(), 0);
 }
 
 #[test]
