@@ -15,7 +15,7 @@ use Rattle.index.specs.Uses.{rules_from}
 
 -- a push where there is room, behind two parts
 pub put : {X : Type 0} (n : ℕ) (start part so_far after : List X) (x : X) (r : Result (Unit {0}) Full) → so_far ≡ start ++ part → length start + length part < n → n ≤ 65535 → Pushed n so_far x r after → IsOk r × (after ≡ start ++ (part ++ x ∷ []))
-put n start part so_far after x (Ok u) is room numbers p = (refl, p ∙ ap (λ l. l ++ x ∷ []) is ∙ append_assoc start part (x ∷ []))
+put n start part so_far after x (Ok u) is room numbers p = (refl, p.0 ∙ ap (λ l. l ++ x ∷ []) is ∙ append_assoc start part (x ∷ []))
 put n start part so_far after x (Err f) is room numbers p =
     let size = ap length is ∙ length-append start part in
     elim p.1 [ inl e ↦ absurd (omega arith) | inr l ↦ absurd (omega arith) ]

@@ -13,9 +13,9 @@ keys l = keys_of (held l.entries)
 abbrev pub values : {T : Type 0} {N : ℕ} → Links T N → List T
 values l = map (λ e. e.value) (held l.entries)
 
--- a push puts something behind the others, or is turned down and changes nothing: where there are N entries or 65,535
+-- a push puts something behind the others, or is turned down and changes nothing: exactly where there are N entries or 65,535
 abbrev pub Pushed : {X : Type 0} → ℕ → List X → X → Result (Unit {0}) Full → List X → Type 0
-Pushed n before x (Ok u) after = after ≡ before ++ x ∷ []
+Pushed n before x (Ok u) after = (after ≡ before ++ x ∷ []) × (length before < n) × (length before < 65535)
 Pushed n before x (Err f) after = (after ≡ before) × ((length before ≡ n) ⊎ (65535 ≤ length before))
 
 -- the last entry with the key, and none behind it has it; or no entry has it
