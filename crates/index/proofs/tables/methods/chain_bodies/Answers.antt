@@ -19,7 +19,7 @@ loop-item-preserved c =
           (keys c.loop-number.uses) (keys c.loop-item.uses) (keys c.push.new.self) c.push.result c.loop-item.item-index c.loop-item-test.true 0 c.loop-number.invariant.items c.loop-item.invariant.items c.push.ensures.keys).1;
       numbers =
           (put_number c.args.rules.now c.loop-number.number c.index-rules-number.result c.as_slice-item-items.result.now c.loop-number-test.true c.requires.few c.index-rules-number.is c.as_slice-item-items.ensures
-          (values c.loop-number.uses) (values c.loop-item.uses) (values c.push.new.self) c.push.result c.loop-item.item-index c.loop-item-test.true _ (cc) c.loop-number.invariant.numbers c.loop-item.invariant.numbers c.push.ensures.values).1;
+          (values c.loop-number.uses) (values c.loop-item.uses) (values c.push.new.self) c.push.result c.loop-item.item-index c.loop-item-test.true _ (omega arith) c.loop-number.invariant.numbers c.loop-item.invariant.numbers c.push.ensures.values).1;
     }
 
 pub loop-number-preserved : goal.loop-number-preserved
