@@ -26,12 +26,16 @@ not_both n s = absurd cc
 abbrev pub ItemAnswered : Reader → Option ItemParts → Reader → Type 0
 ItemAnswered before answer after = record { read : ItemRead before answer after; answer : Reads (item_in (left before)) before item_parts item_size answer after }
 
-pub item_none : (r : Reader) (answer : Option ItemParts) → item_in (left r) ≡ None → answer ≡ None → ItemAnswered r answer r
-item_none r answer n a =
+-- nothing is read, and the reader is where it was
+pub item_still : (r r2 : Reader) (answer : Option ItemParts) → r2.text ≡ r.text → r2.place ≡ r.place → item_in (left r) ≡ None → answer ≡ None → ItemAnswered r answer r2
+item_still r r2 answer same stays n a =
     rw a record {
-      read = record { text = refl; read = λ i rest e g s. not_both n ((item_law (left r) i rest).1 (e, g, s)); none = λ _. (refl, refl) };
-      answer = rw n (refl, refl);
+      read = record { text = same; read = λ i rest e g s. not_both n ((item_law (left r) i rest).1 (e, g, s)); none = λ _. (refl, stays) };
+      answer = rw n (refl, same);
     }
+
+pub item_none : (r : Reader) (answer : Option ItemParts) → item_in (left r) ≡ None → answer ≡ None → ItemAnswered r answer r
+item_none r answer n a = item_still r r answer refl refl n a
 
 pub item_some : (before after : Reader) (p : ItemParts) → Reads (item_in (left before)) before item_parts item_size (Some p) after → ItemAnswered before (Some p) after
 item_some before after p r =

@@ -5,7 +5,7 @@ use Rattle.std.proofs.lemmas.Bool.{lt-ltb, le-ltb, or_left, or_right, or_from}
 use Rattle.table.specs.Held.{held}
 use Rattle.table.proofs.Slots.{length-held}
 use Rattle.book.specs.declared.fault.Fault.{Fault}
-use Rattle.book.specs.declared.fault.Fault.TheVariants.{OneLetter, EnrolledBefore, NotEnrolled, TooMany, SecondAsk}
+use Rattle.book.specs.declared.fault.Fault.TheVariants.{OneLetter, EnrolledBefore, NotEnrolled, Strange, TooMany, SecondAsk}
 use Rattle.book.specs.Grammar.{LineText}
 use Rattle.house.specs.declared.tables.Tables.{Tables}
 use Rattle.house.specs.Policies.{Policies, has_one_letter, enrolled_before, not_enrolled, strange, too_many, second_ask, body_of, with, fault_of}
@@ -24,6 +24,9 @@ module _ (v : Policies) (l : LineText) where
     module _ (b : enrolled_before v l ≡ false) where
       pub at_unknown : not_enrolled v l ≡ true → fault_of v l ≡ Some NotEnrolled
       at_unknown h = rw (a, b, h)
+
+      pub at_strange : not_enrolled v l ≡ false → strange l ≡ true → fault_of v l ≡ Some Strange
+      at_strange c h = rw (a, b, c, h)
 
       module _ (c : not_enrolled v l ≡ false) (d : strange l ≡ false) where
         pub at_many : too_many v l ≡ true → fault_of v l ≡ Some TooMany

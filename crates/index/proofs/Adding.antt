@@ -81,10 +81,10 @@ module _ (rules : List Rule) (i : ℕ) (rule : Rule) (body : List ℕ) (l : i < 
         let done = put 4096 start (take j body) so_far after (get_or body j d) r g (room start (take j body) j (ap length f) (length-take-le j body (omega arith)) more) (omega arith) p in
         (done.0, done.1 ∙ ap (λ l. start ++ l) (sym (take_more body j d more)))
 
-    pub put_number : start ≡ rules_from 0 (rule_views (take i rules)) → so_far ≡ start ++ replicate j i → Pushed 4096 so_far i r after → IsOk r × (after ≡ start ++ replicate (j + 1) i)
-    put_number f g p =
-        let done = put 4096 start (replicate j i) so_far after i r g (room start (replicate j i) j (ap length f ∙ as_many 0 (rule_views (take i rules))) (length-replicate j i) more) (omega arith) p in
-        (done.0, done.1 ∙ ap (λ l. start ++ l) (replicate_push j i))
+    pub put_number : (n : ℕ) → n ≡ i → start ≡ rules_from 0 (rule_views (take i rules)) → so_far ≡ start ++ replicate j i → Pushed 4096 so_far n r after → IsOk r × (after ≡ start ++ replicate (j + 1) i)
+    put_number n e f g p =
+        let done = put 4096 start (replicate j i) so_far after n r g (room start (replicate j i) j (ap length f ∙ as_many 0 (rule_views (take i rules))) (length-replicate j i) more) (omega arith) p in
+        (done.0, done.1 ∙ ap (λ m. start ++ (replicate j i ++ m ∷ [])) e ∙ ap (λ l. start ++ l) (replicate_push j i))
 
   module _ (start so_far : List ℕ) (j : ℕ) (done : length body ≤ j) where
     pub items_next : start ≡ flat_map (λ v. v.body) (rule_views (take i rules)) → so_far ≡ start ++ take j body → so_far ≡ flat_map (λ v. v.body) (rule_views (take (i + 1) rules))

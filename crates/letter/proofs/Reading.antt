@@ -1,6 +1,6 @@
 -- What reading a number answers, by where the number ends.
 use Rattle.std.proofs.Common.{◌≡◌, ℕ, ◌+◌, ◌*◌, ◌%◌, ◌^◌, ◌<◌, ◌≤◌, zero, suc, List, [], ◌∷◌, ◌++◌, reverse, length, get_or, take, drop, bit_and, bit_or, Fits, w8, Ok, Err, Result, sym, refl, ap, ◌∙◌, subst, append_assoc, arith, length-append}
-use Rattle.std.proofs.lemmas.List.{append-nil, length-take-le, take-append-drop, take_all, take_more, drop_more, reverse-append}
+use Rattle.std.proofs.lemmas.List.{append-nil, length-take-le, take-append-drop, take_all, drop_more, reverse-append}
 use Rattle.std.proofs.lemmas.List.Sums.{fold_push}
 use Rattle.std.proofs.lemmas.Grind.{common_steps}
 use Rattle.std.specs.List.{fold}
@@ -162,9 +162,11 @@ module _ (bytes : List ℕ) (fit : (k : ℕ) → Fits w8 (get_or bytes k 0)) (p 
         subst (λ b. NumberRead b (Err Malformed)) (ap (λ x. take p bytes ++ x ∷ drop (p + 1) bytes) (sym z) ∙ here)
         (reads_padded (take p bytes) (drop (p + 1) bytes) marked (omega (arith, far)))
 
-    pub at_last : p < 3 → get_or bytes p 0 < 128 → (0 < p → 0 < get_or bytes p 0) → NumberRead bytes (Ok (value_of (take (p + 1) bytes), drop (p + 1) bytes))
-    at_last few small shortest =
-        rw (take_more bytes p 0 h)
+    pub at_last :
+        p < 3 → get_or bytes p 0 < 128 → (0 < p → 0 < get_or bytes p 0) → (n : ℕ) → n ≡ value_of (take p bytes ++ get_or bytes p 0 ∷ []) →
+        (rest : List ℕ) → rest ≡ drop (p + 1) bytes → NumberRead bytes (Ok (n, rest))
+    at_last few small shortest n v rest r =
+        rw (v, r)
         (subst (λ b. NumberRead b (Ok (value_of (take p bytes ++ get_or bytes p 0 ∷ []), drop (p + 1) bytes))) here
         (reads_whole (take p bytes) (get_or bytes p 0) (drop (p + 1) bytes)
         (record { continued = marked; ends = small; shortest = λ k. shortest (omega (arith, far)) }) (omega (arith, far))))

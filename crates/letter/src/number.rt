@@ -13,15 +13,17 @@ const TOP_BIT: u8 = 0x80;
 pub fn read_number(bytes: &[u8]) -> Result<(u32, &[u8]), Refusal>
     ensures { NumberRead bytes.now (with_contents (λ x. x.now) result) }
 {
-    let last = bytes
-        .iter()
-        .take(MOST_GROUPS)
-        .position(|&group| group < TOP_BIT);
-    match last {
-        None if bytes.len() < MOST_GROUPS => Err(Refusal::CutShort),
-        None => Err(Refusal::Malformed),
-        Some(last) if last > 0 && bytes[last] == 0 => Err(Refusal::Malformed),
-        Some(last) => Ok((spelled(&bytes[..=last]), &bytes[last + 1..])),
+    match bytes {
+        [last, rest @ ..] if *last < TOP_BIT => Ok((u32::from(*last), rest)),
+        // The last of several groups is never 0.
+        [_, 0, ..] => Err(Refusal::Malformed),
+        [first, last, rest @ ..] if *last < TOP_BIT => Ok((spelled(&[*first, *last]), rest)),
+        [_, _, 0, ..] => Err(Refusal::Malformed),
+        [first, second, last, rest @ ..] if *last < TOP_BIT => {
+            Ok((spelled(&[*first, *second, *last]), rest))
+        }
+        [_, _, _, ..] => Err(Refusal::Malformed),
+        _ => Err(Refusal::CutShort),
     }
 }
 

@@ -11,13 +11,17 @@ pub fn report(heap: Global, capture: &[u8]) -> Result<String, AllocError>
     ensures { IfOk result (λ text. Reported capture.now (string_bytes text)) }
 {
     let mut text = String::new(heap);
+    let mut line = String::new(heap);
     let mut rest = capture;
     let mut count: usize = 0;
     // An iterator over the letters would be no plainer: the count and the rest are needed behind it.
     while !rest.is_empty() {
         match Letter::read(rest) {
             Ok((letter, behind)) => {
-                writeln!(text, "{letter}")?;
+                // The text grows by whole lines.
+                line.clear();
+                writeln!(line, "{letter}")?;
+                text.push_str(line.as_str())?;
                 count += 1;
                 rest = behind;
             }

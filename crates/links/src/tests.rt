@@ -1,4 +1,5 @@
 use crate::Links;
+use std::mem::size_of;
 
 #[test]
 fn chains(rt: HostRuntime) {
@@ -37,4 +38,10 @@ fn values(rt: HostRuntime) {
     assert_eq!(rt; links.latest(3), None);
     assert_eq!(rt; links.value(4095), Some(8190));
     assert_eq!(rt; links.value(4096), None);
+}
+
+#[test]
+fn entries_of_four_and_six_bytes(rt: HostRuntime) {
+    assert_eq!(rt; size_of::<Links<(), 512>>(), 4 * 512 + 8 + 512);
+    assert_eq!(rt; size_of::<Links<u16, 4096>>(), 6 * 4096 + 8 + 512);
 }

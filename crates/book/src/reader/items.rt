@@ -96,6 +96,7 @@ impl<'a> Reader<'a> {
         ensures read { ItemRead self.old result self.new }
         ensures answer { Reads (item_in (left self.old)) self.old item_parts item_size result self.new }
     {
+        let place = self.place;
         let mut ahead = *self;
         let source = ahead.name()?;
         ahead.expect(Sign::Caret)?;
@@ -103,8 +104,8 @@ impl<'a> Reader<'a> {
         ahead.expect(Sign::Arrow)?;
         let destination = ahead.name()?;
         let whole = Part {
-            place: self.place,
-            length: ahead.place - self.place,
+            place,
+            length: ahead.place - place,
         };
         let letter = [source.length, destination.length].contains(&1);
         *self = ahead;

@@ -10,11 +10,17 @@ use crate::reading::tables_of;
 pub fn read(text: &[u8], house: &mut House) -> Result<(), Refusal>
     ensures { Answers (house_read text.now) result (view house.new) }
 {
-    *house = House::empty();
-    let tables = tables_of(text)?;
-    *house = House {
-        tables,
-        text_length: text.len(),
-    };
-    Ok(())
+    match tables_of(text) {
+        Ok(tables) => {
+            *house = House {
+                tables,
+                text_length: text.len(),
+            };
+            Ok(())
+        }
+        Err(refusal) => {
+            *house = House::empty();
+            Err(refusal)
+        }
+    }
 }

@@ -1,4 +1,4 @@
-ghost use Rattle.std.specs.Prelude.{◌≡◌, ℕ, ◌<◌, ◌≤◌, map, length};
+ghost use Rattle.std.specs.Prelude.{◌≡◌, ℕ, ◌<◌, ◌≤◌, [], map, length};
 ghost use Rattle.std.specs.List.{flat_map};
 ghost use Rattle.links.specs.Keys.{keys, values};
 ghost use Rattle.house.specs.House.{view};
@@ -33,32 +33,31 @@ impl Keyed for Rule {
     }
 }
 
-/// The entries by their keys.
-fn chained<T: Keyed, const N: usize>(entries: &[T]) -> Links<(), N>
+/// Puts in the entries by their keys.
+fn chain<T: Keyed, const N: usize>(links: &mut Links<(), N>, entries: &[T])
+    requires empty { keys links.old ≡ [] }
     requires room { length entries.now ≤ N }
     requires numbers { N < 65535 }
-    ensures { keys result ≡ map T.key_of entries.now }
+    ensures { keys links.new ≡ map T.key_of entries.now }
 {
-    let mut links = Links::none(());
     for entry in entries {
         links.push(entry.key(), ()).unwrap();
     }
-    links
 }
 
-/// The body items of the rules.
-fn uses(rules: &[Rule]) -> Links<u16, MOST_USES>
-    requires { length rules.now ≤ 512 }
-    ensures items { keys result ≡ flat_map (λ r. r.body) (rule_views rules.now) }
-    ensures rules { values result ≡ rules_from 0 (rule_views rules.now) }
+/// Puts in the body items of the rules.
+fn chain_bodies(uses: &mut Links<u16, MOST_USES>, rules: &[Rule])
+    requires no_items { keys uses.old ≡ [] }
+    requires no_rules { values uses.old ≡ [] }
+    requires few { length rules.now ≤ 512 }
+    ensures items { keys uses.new ≡ flat_map (λ r. r.body) (rule_views rules.now) }
+    ensures rules { values uses.new ≡ rules_from 0 (rule_views rules.now) }
 {
-    let mut uses = Links::none(0);
     for (number, rule) in rules.iter().enumerate() {
         for &item in rule.body.as_slice() {
             uses.push(item, number as u16).unwrap();
         }
     }
-    uses
 }
 
 impl Index {
@@ -67,10 +66,14 @@ impl Index {
         ensures { Indexes (view house.now) result }
     {
         house.soundness_law();
-        Index {
-            uses: uses(house.rules()),
-            heads: chained(house.rules()),
-            credentials: chained(house.items()),
-        }
+        let mut index = Index {
+            uses: Links::none(0),
+            heads: Links::none(()),
+            credentials: Links::none(()),
+        };
+        chain_bodies(&mut index.uses, house.rules());
+        chain(&mut index.heads, house.rules());
+        chain(&mut index.credentials, house.items());
+        index
     }
 }

@@ -3,6 +3,7 @@ ghost use Rattle.std.specs.List.{slice_get};
 ghost use Rattle.links.specs.Chain.{latest, earlier};
 ghost use Rattle.links.specs.Keys.{keys, values, Pushed};
 
+use super::link::Link;
 use super::{Entry, Links};
 use table::{Full, Table};
 
@@ -15,11 +16,11 @@ impl<T: Copy, const N: usize> Links<T, N> {
         let unused = Entry {
             key: 0,
             value: filler,
-            earlier: None,
+            earlier: Link::none(),
         };
         Links {
             entries: Table::new(unused),
-            latest: [None; 256],
+            latest: [Link::none(); 256],
         }
     }
 
@@ -46,7 +47,7 @@ impl<T: Copy, const N: usize> Links<T, N> {
             value,
             earlier,
         })?;
-        self.latest[place] = Some(number as u16);
+        self.latest[place] = Link::to(number as u16);
         Ok(())
     }
 
@@ -54,14 +55,14 @@ impl<T: Copy, const N: usize> Links<T, N> {
     pub fn latest(&self, key: u8) -> Option<u16>
         ensures { result ≡ latest (keys self.now) key }
     {
-        self.latest[key as usize]
+        self.latest[key as usize].entry()
     }
 
     /// The latest entry before an entry that has the same key.
     pub fn earlier(&self, entry: u16) -> Option<u16>
         ensures { result ≡ earlier (keys self.now) entry }
     {
-        self.entries.get(entry as usize)?.earlier
+        self.entries.get(entry as usize)?.earlier.entry()
     }
 
     /// The value of an entry.

@@ -1,6 +1,6 @@
 use Rattle.std.proofs.Common.{◌++◌, string_bytes, refl, ap, ◌∙◌, arith}
 use Rattle.std.proofs.lemmas.List.{nil_from_length}
-use Rattle.letters.specs.Report.{count_line}
+use Rattle.letters.specs.Report.{letter_line, count_line}
 use Rattle.letters.proofs.SoFar.{shorter, within, next, all_read, stopped}
 use Rattle.letters.proofs.report.report.Goals as goal
 use Rattle.letters.proofs.report.report.Goals.{else-loop-rest-test, then-loop-rest-test+in-Err+in_ok-writeln-in-Err}
@@ -12,7 +12,10 @@ pub loop-rest-smaller : goal.loop-rest-smaller
 loop-rest-smaller c = shorter ((c.in-Ok.ensures.answer.read _ _).0 refl)
 
 pub loop-rest-preserved : goal.loop-rest-preserved
-loop-rest-preserved c = next c.loop-rest.invariant ((c.in-Ok.ensures.answer.read _ _).0 refl) c.in_ok-writeln-in-Ok.ensures.bytes
+loop-rest-preserved c =
+    let l = c.in-Ok.letter in
+    let line = c.as_str.ensures.value ∙ c.in_ok-writeln-in-Ok.ensures.bytes ∙ ap (λ b. b ++ letter_line l) c.clear.ensures.bytes in
+    next c.loop-rest.invariant ((c.in-Ok.ensures.answer.read _ _).0 refl) (c.in_ok-push_str-in-Ok.ensures.bytes ∙ ap (λ b. string_bytes c.loop-rest.text ++ b) line)
 
 pub returns : goal.returns
 returns c =

@@ -2,7 +2,7 @@ use Rattle.std.proofs.Common.{◌≡◌, Bool, Some, ◌+◌, ◌-◌, ◌||◌,
 use Rattle.book.specs.Grammar.{ItemText}
 use Rattle.book.specs.Reading.{item_in}
 use Rattle.book.specs.Places.{name_part, credential_part, credential_size, item_one_letter, item_parts, item_size}
-use Rattle.book.proofs.Answered.{ItemAnswered, item_none, item_some}
+use Rattle.book.proofs.Answered.{ItemAnswered, item_still, item_none, item_some}
 use Rattle.book.proofs.Singles.{any_of_two}
 use Rattle.book.proofs.Steps.{took, missed, ahead_start, on, off, end}
 use Rattle.book.proofs.reader.Reader.item.Goals.{After-contains-letter}
@@ -45,7 +45,7 @@ returns-in_err-destination c =
     let o2 = on _ o1 (took _ _ _ _ _ _ c.in_ok-expect.ensures) in
     let o3 = on _ o2 (took _ _ _ _ _ _ c.in_ok-credential.ensures) in
     let o = on _ o3 (took _ _ _ _ _ _ c.in_ok-expect-2.ensures) in
-    item_none c.args.self.now c.from_residual-in_err-destination.result (off _ o (missed _ _ _ _ _ c.in_err-destination.ensures)).parsed c.from_residual-in_err-destination.ensures
+    item_still c.args.self.now _ c.from_residual-in_err-destination.result refl refl (off _ o (missed _ _ _ _ _ c.in_err-destination.ensures)).parsed c.from_residual-in_err-destination.ensures
 
 pub overflow_sub-whole : goal.overflow_sub-whole
 overflow_sub-whole c =

@@ -1,7 +1,7 @@
 use Rattle.std.proofs.Common.{arith}
 use Rattle.links.specs.Keys.{keys}
 use Rattle.index.proofs.Adding.{put_next}
-use Rattle.index.proofs.tables.methods.chained.Goals as goal
+use Rattle.index.proofs.tables.methods.chain.Goals as goal
 
 pub unwrap-requires : goal.unwrap-requires
 unwrap-requires g c =

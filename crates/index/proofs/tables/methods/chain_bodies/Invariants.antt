@@ -3,7 +3,7 @@ use Rattle.std.specs.List.{flat_map}
 use Rattle.links.specs.Keys.{keys, values}
 use Rattle.house.specs.View.{rule_views}
 use Rattle.index.specs.Uses.{rules_from}
-use Rattle.index.proofs.tables.methods.uses.Given as goal
+use Rattle.index.proofs.tables.methods.chain_bodies.Given as goal
 
 abbrev pub invariant-loop-number : goal.invariant-loop-number
 invariant-loop-number l = record {
