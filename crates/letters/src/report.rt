@@ -18,7 +18,7 @@ pub fn report(heap: Global, capture: &[u8]) -> Result<String, AllocError>
     while !rest.is_empty() {
         match Letter::read(rest) {
             Ok((letter, behind)) => {
-                // The text grows by whole lines.
+                // By whole lines: by the pieces of a line the text's memory would grow in other steps, some of them larger.
                 line.clear();
                 writeln!(line, "{letter}")?;
                 text.push_str(line.as_str())?;
